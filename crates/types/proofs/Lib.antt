@@ -1,0 +1,3 @@
+pub mod BytesLaws
+pub mod PageIDLaws
+pub mod TestLaws

@@ -1,0 +1,57 @@
+-- The numbers of the build that we ship (document 01, 'The build we ship'), each by one name. Assumes nothing.
+use Prim.Native.Nat.{ℕ, _+_, _-_, _*_}
+use Rattle.types.specs.declared.config.Build.{Build}
+
+abbrev pub pageSize : ℕ
+pageSize = 4096
+
+abbrev pub align : ℕ
+align = 4
+
+abbrev pub eraseValue : ℕ
+eraseValue = 0xFF
+
+abbrev pub maxPageCount : ℕ
+maxPageCount = 256
+
+abbrev pub maxKeySize : ℕ
+maxKeySize = 64
+
+abbrev pub maxValueSize : ℕ
+maxValueSize = 1024
+
+abbrev pub branchingFactor : ℕ
+branchingFactor = 2
+
+-- two files for each of eight levels, and one
+abbrev pub fileCount : ℕ
+fileCount = 2 * 8 + 1
+
+-- a page header without the higher header, and the longest higher header
+abbrev pub pageHeaderSize : ℕ
+pageHeaderSize = 12
+
+abbrev pub maxHeaderSize : ℕ
+maxHeaderSize = 64
+
+abbrev pub chunkHeaderSize : ℕ
+chunkHeaderSize = 8
+
+abbrev pub maxChunkSize : ℕ
+maxChunkSize = 4096 - 12 - 8
+
+abbrev pub theBuild : Build
+theBuild = record {
+  «page_size» = pageSize;
+  align = align;
+  «erase_value» = eraseValue;
+  «max_page_count» = maxPageCount;
+  «max_key_size» = maxKeySize;
+  «max_value_size» = maxValueSize;
+  «branching_factor» = branchingFactor;
+  «file_count» = fileCount;
+  «page_header_size» = pageHeaderSize;
+  «max_header_size» = maxHeaderSize;
+  «chunk_header_size» = chunkHeaderSize;
+  «max_chunk_size» = maxChunkSize;
+}

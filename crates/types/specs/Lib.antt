@@ -1,0 +1,4 @@
+pub mod Build
+pub mod Bytes
+pub mod PageIDs
+pub mod Refusals
