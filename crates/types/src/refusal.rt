@@ -27,6 +27,12 @@ pub enum Refusal {
     BadState,
 }
 
+// What the checks before the work come to.
+pub enum Verdict {
+    Fine,
+    Refused(Refusal),
+}
+
 impl Refusal {
     // The number in the table.
     pub fn number(self) -> u8

@@ -1,0 +1,55 @@
+-- The shape of the flash, and a page as a part of it. Assumes nothing.
+use mathlib.Core.Path.{_≡_, refl, sym, ap, _∙_}
+use mathlib.Core.Bool.{true}
+use mathlib.Core.List.{List, []}
+use mathlib.Core.Logic.{⊎-elim}
+use Prim.Native.Nat.{ℕ, _+_, _-_, _*_, _/_, _%_, _≤_, _<_, min}
+use native.Mathlib.Omega.{arith}
+use lib.Dec.{eqb, leb}
+use lib.ListN.{length, take, drop, length-take, length-drop, drop-of-length-le}
+use lib.Seq.{take-all, take-nil}
+use borrow.Author.Tests.{eqb-true, leb-true, eq-eqb, le-leb}
+use Rattle.types.specs.Build.{pageSize}
+use Rattle.types.proofs.TestLaws.{both-true, le-or-lt}
+use Rattle.flash.specs.Geometry.{flashFine, pageCount, pageStart, pageOf}
+
+-- a fine flash is 1 to 256 whole pages, and the other way round
+pub fine-whole : (n : ℕ) → flashFine n ≡ true → (n ≡ pageCount n * pageSize) × ((1 ≤ pageCount n) × (pageCount n ≤ 256))
+fine-whole n e =
+    let u = both-true _ _ e in
+    let l = both-true _ _ (u .0) in
+    let whole : n % 4096 ≡ 0 = eqb-true _ _ (l .0) in
+    let low : 4096 ≤ n = leb-true _ _ (l .1) in
+    let high : n ≤ 1048576 = leb-true _ _ (u .1) in
+    (omega arith, (omega arith, omega arith))
+
+pub whole-fine : (k : ℕ) → 1 ≤ k → k ≤ 256 → flashFine (k * pageSize) ≡ true
+whole-fine k low high =
+    rw (eq-eqb (k * 4096 % 4096) 0 (omega arith), le-leb 4096 (k * 4096) (omega arith), le-leb (k * 4096) 1048576 (omega arith))
+
+-- a page that the flash has lies in it whole
+pub page-inside : (n p : ℕ) → p < pageCount n → pageStart p + pageSize ≤ n
+page-inside n p h = omega arith
+
+pub length-page : (base : ℕ) (xs : List ℕ) → base + pageSize ≤ length xs → length (take pageSize (drop base xs)) ≡ pageSize
+length-page base xs h = simp (length-take, length-drop) (omega arith)
+
+-- a page as the part from where it starts, or the end, to where it ends, or the end
+pub page-lent : (p : ℕ) (xs : List ℕ) (start end : ℕ) → start ≡ min (pageStart p) (length xs) → end ≡ min (start + pageSize) (length xs)
+    → take (end - start) (drop start xs) ≡ pageOf p xs
+page-lent p xs start end s e =
+    ⊎-elim
+    (λ inside.
+    let a : start ≡ p * 4096 = omega arith in
+    ⊎-elim
+    (λ whole. let k : end - start ≡ 4096 = omega arith in rw (k, a))
+    (λ short.
+    let k : end - start ≡ length xs - p * 4096 = omega arith in
+    let l : length (drop (p * 4096) xs) ≡ length xs - p * 4096 = length-drop (p * 4096) xs in
+    rw (k, a) (take-all (length xs - p * 4096) (drop (p * 4096) xs) (omega arith) ∙ sym (take-all 4096 (drop (p * 4096) xs) (omega arith))))
+    (le-or-lt (p * 4096 + 4096) (length xs)))
+    (λ past.
+    let a : length xs ≤ start = omega arith in
+    let b : length xs ≤ p * 4096 = omega arith in
+    ap (take (end - start)) (drop-of-length-le xs a) ∙ take-nil (end - start) ∙ sym (ap (take 4096) (drop-of-length-le xs b) ∙ take-nil 4096))
+    (le-or-lt (p * 4096) (length xs))

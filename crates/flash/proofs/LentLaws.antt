@@ -1,0 +1,85 @@
+-- What the whole flash is after a part of it was lent on and came back: a patch. Assumes nothing.
+use mathlib.Core.Path.{_≡_, refl, sym, ap, ap₂, _∙_}
+use mathlib.Core.List.{List, [], _∷_, _++_, append-nil}
+use mathlib.Core.Logic.{⊎-elim}
+use Prim.Native.Nat.{ℕ, zero, suc, _+_, _-_, _*_, _≤_, _<_, min}
+use native.Mathlib.Nat.{le-of-suc-le-suc, not-suc-le-zero}
+use native.Mathlib.Omega.{arith}
+use lib.ListN.{length, take, drop, replicate, length-take, length-drop, drop-of-length-le}
+use lib.Seq.{take-all, take-nil, drop-drop}
+use Rattle.types.specs.Build.{pageSize}
+use Rattle.types.proofs.TestLaws.{le-or-lt}
+use Rattle.flash.specs.Geometry.{pageStart}
+use Rattle.flash.specs.Patch.{over, patch, blank}
+use Rattle.flash.proofs.PatchLaws.{patch-none, patch-past}
+
+patch-part : (at : ℕ) (bytes xs : List ℕ) → at ≤ length xs → take at xs ++ over bytes (drop at xs) ≡ patch at bytes xs
+unfolding patch
+patch-part zero bytes xs h = refl
+patch-part (suc at) bytes [] h = absurd (not-suc-le-zero h)
+patch-part (suc at) bytes (x ∷ xs) h = ap (λ (l : List ℕ). x ∷ l) (patch-part at bytes xs (le-of-suc-le-suc h))
+
+-- bytes were put over the part from `at` to the end
+put-back : (at n : ℕ) (bytes xs ys : List ℕ) → at ≤ length xs → n ≡ length xs - at → ys ≡ over bytes (take n (drop at xs))
+    → take at xs ++ (ys ++ drop n (drop at xs)) ≡ patch at bytes xs
+put-back at n bytes xs ys h e y =
+    let l : length (drop at xs) ≤ n = simp length-drop (omega arith) in
+    rw (y, take-all n (drop at xs) l, drop-of-length-le (drop at xs) l, append-nil) (patch-part at bytes xs h)
+
+take-least : (n k : ℕ) (xs : List ℕ) → n ≡ min (length xs) k → take n xs ≡ take k xs
+take-least n k xs e =
+    ⊎-elim
+    (λ h. take-all n xs (omega arith) ∙ sym (take-all k xs h))
+    (λ h. let f : n ≡ k = omega arith in ap (λ (m : ℕ). take m xs) f)
+    (le-or-lt (length xs) k)
+
+-- a place past the end is as good as the end
+patch-least : (at from : ℕ) (bytes xs : List ℕ) → from ≡ min at (length xs) → patch from bytes xs ≡ patch at bytes xs
+patch-least at from bytes xs e =
+    ⊎-elim
+    (λ h. let f : from ≡ at = omega arith in ap (λ (m : ℕ). patch m bytes xs) f)
+    (λ h. patch-past from bytes xs (omega arith) ∙ sym (patch-past at bytes xs (omega arith)))
+    (le-or-lt at (length xs))
+
+-- the store of a page
+pub store-lent : (base at n m from : ℕ) (bytes xs ys : List ℕ) → n ≡ min (length bytes) (pageSize - at) → m ≡ min at pageSize → from ≡ min (base + m) (length xs)
+    → ys ≡ over (take n bytes) (take (length xs - from) (drop from xs))
+    → take from xs ++ (ys ++ drop (length xs - from) (drop from xs)) ≡ patch (base + at) (take (pageSize - at) bytes) xs
+store-lent base at n m from bytes xs ys e f g y =
+    put-back from (length xs - from) (take n bytes) xs ys (omega arith) refl y
+    ∙ ap (λ (b : List ℕ). patch from b xs) (take-least n (4096 - at) bytes e)
+    ∙ ⊎-elim
+    (λ h. let a : m ≡ at = omega arith in patch-least (base + at) from (take (4096 - at) bytes) xs (g ∙ ap (λ (k : ℕ). min (base + k) (length xs)) a))
+    (λ h.
+    let z : 4096 - at ≡ 0 = omega arith in
+    rw z (patch-none from xs ∙ sym (patch-none (base + at) xs)))
+    (le-or-lt at 4096)
+
+-- ---- an erase
+
+over-blank : (e n : ℕ) (xs : List ℕ) → over (blank e n) xs ≡ blank e (length (take n xs)) ++ drop n xs
+unfolding over blank
+over-blank e zero xs = refl
+over-blank e (suc n) [] = refl
+over-blank e (suc n) (x ∷ xs) = ap (λ (l : List ℕ). e ∷ l) (over-blank e n xs)
+
+-- the erase of a page
+pub erase-lent : (e base start end : ℕ) (xs ys : List ℕ) → start ≡ min base (length xs) → end ≡ min (start + pageSize) (length xs)
+    → ys ≡ blank e (length (take (end - start) (drop start xs)))
+    → take start xs ++ (ys ++ drop (end - start) (drop start xs)) ≡ patch base (blank e pageSize) xs
+erase-lent e base start end xs ys s f y =
+    let l : length (drop start xs) ≡ length xs - start = length-drop start xs in
+    let k : end - start ≡ min (length (drop start xs)) 4096 = omega arith in
+    let t : take (end - start) (drop start xs) ≡ take 4096 (drop start xs) = take-least (end - start) 4096 (drop start xs) k in
+    let d : drop (end - start) (drop start xs) ≡ drop 4096 (drop start xs) = drop-least (end - start) 4096 (drop start xs) k in
+    ap₂ (λ (b r : List ℕ). take start xs ++ (b ++ r)) (y ∙ ap (λ (p : List ℕ). blank e (length p)) t) d
+    ∙ ap (λ (p : List ℕ). take start xs ++ p) (sym (over-blank e 4096 (drop start xs)))
+    ∙ patch-part start (blank e 4096) xs (omega arith)
+    ∙ patch-least base start (blank e 4096) xs s
+  where
+    drop-least : (n k : ℕ) (l : List ℕ) → n ≡ min (length l) k → drop n l ≡ drop k l
+    drop-least n k l e =
+        ⊎-elim
+        (λ h. drop-of-length-le l (let g : length l ≤ n = omega arith in g) ∙ sym (drop-of-length-le l h))
+        (λ h. let f : n ≡ k = omega arith in ap (λ (m : ℕ). drop m l) f)
+        (le-or-lt (length l) k)

@@ -1,0 +1,19 @@
+-- `flash::field::put16` meets its contract. Assumes nothing.
+use mathlib.Core.Path.{refl}
+use borrow.Author.Needs.{needs}
+use Rattle.types.specs.Bytes.{bytesOf}
+use Rattle.flash.proofs.field.put16.Statement.{statement}
+use Rattle.flash.proofs.field.put16.Tie as tie
+
+cast-low : tie.Need-cast-low
+cast-low c = search needs
+
+cast-high : tie.Need-cast-high
+cast-high c = search needs
+
+returns : tie.Need-returns
+unfolding bytesOf
+returns c = refl
+
+pub put16-spec : {M : Type 1} → statement M
+put16-spec = tie.close (tie.spec cast-low cast-high returns)

@@ -1,0 +1,16 @@
+-- `flash::geometry::has_page` meets its contract. Assumes nothing.
+use borrow.Author.Needs.{needs}
+use Rattle.flash.proofs.geometry.has_page.Statement.{statement}
+use Rattle.flash.proofs.geometry.has_page.Tie as tie
+
+index-requires : tie.Need-index-requires
+index-requires c κs = search needs
+
+page-count-requires : tie.Need-page-count-requires
+page-count-requires c κs = search needs
+
+returns : tie.Need-returns
+returns c = rw (c .before .index .ensures, c .page-count .ensures)
+
+pub has-page-spec : {M : Type 1} → statement M
+has-page-spec = tie.close (tie.spec index-requires page-count-requires returns)

@@ -1,0 +1,55 @@
+-- `flash::ops::erase` meets its contract. Assumes nothing.
+use mathlib.Core.Path.{_∙_}
+use Rattle.flash.specs.Geometry.{pageStart}
+use Rattle.flash.proofs.LentLaws.{erase-lent}
+use borrow.Author.Needs.{needs}
+use Rattle.flash.proofs.ops.erase.Statement.{statement}
+use Rattle.flash.proofs.ops.erase.Tie as tie
+
+page-start-requires : tie.Need-page-start-requires
+page-start-requires c κs = search needs
+
+least-requires : tie.Need-least-requires
+least-requires c κs = search needs
+
+add-least : tie.Need-add-least
+add-least c = search needs
+
+least-requires-2 : tie.Need-least-requires-2
+least-requires-2 c κs = search needs
+
+sub-wipe : tie.Need-sub-wipe
+sub-wipe c = search needs
+
+part-wipe-start : tie.Need-part-wipe-start
+part-wipe-start c = search needs
+
+part-wipe-end : tie.Need-part-wipe-end
+part-wipe-end c = search needs
+
+wipe-requires : tie.Need-wipe-requires
+wipe-requires c κs = search needs
+
+same-length : tie.Need-same-length
+same-length c = search needs
+
+returns : tie.Need-returns
+returns c =
+    let a = c .before .before .before .before .before .before .before .before .args in
+    erase-lent (a .value) (pageStart (a .page .0)) (c .before .before .before .before .before .least .result) (c .before .before .before .before .least2 .result) (a .flash .now) (c .before .before .wipe .last .0)
+    (c .before .before .before .before .before .least .ensures ∙ rw (c .before .before .before .before .before .before .page-start .ensures)) (c .before .before .before .before .least2 .ensures) (c .before .before .wipe .ensures)
+
+pub erase-spec : {M : Type 1} → statement M
+erase-spec =
+    tie.close
+    (tie.spec
+    page-start-requires
+    least-requires
+    add-least
+    least-requires-2
+    sub-wipe
+    part-wipe-start
+    part-wipe-end
+    wipe-requires
+    same-length
+    returns)

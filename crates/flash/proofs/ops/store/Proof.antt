@@ -1,0 +1,69 @@
+-- `flash::ops::store` meets its contract. Assumes nothing.
+use mathlib.Core.Path.{_∙_}
+use native.Mathlib.Omega.{arith}
+use lib.ListN.{length-take}
+use Rattle.flash.specs.Geometry.{pageStart}
+use Rattle.flash.proofs.LentLaws.{store-lent}
+use borrow.Author.Needs.{needs}
+use Rattle.flash.proofs.ops.store.Statement.{statement}
+use Rattle.flash.proofs.ops.store.Tie as tie
+
+less-requires : tie.Need-less-requires
+less-requires c κs = search needs
+
+least-requires : tie.Need-least-requires
+least-requires c κs = search needs
+
+page-start-requires : tie.Need-page-start-requires
+page-start-requires c κs = search needs
+
+least-requires-2 : tie.Need-least-requires-2
+least-requires-2 c κs = search needs
+
+add-least : tie.Need-add-least
+add-least c = search needs
+
+least-requires-3 : tie.Need-least-requires-3
+least-requires-3 c κs = search needs
+
+sub-put : tie.Need-sub-put
+sub-put c = search needs
+
+part-put-start : tie.Need-part-put-start
+part-put-start c = search needs
+
+part-put-end : tie.Need-part-put-end
+part-put-end c = search needs
+
+slice-aggregate-put : tie.Need-slice-aggregate-put
+slice-aggregate-put c = simp length-take (omega arith)
+
+put-requires : tie.Need-put-requires
+put-requires c κs = search needs
+
+same-length : tie.Need-same-length
+same-length c = search needs
+
+returns : tie.Need-returns
+returns c =
+    let a = c .before .before .before .before .before .before .before .before .before .before .before .before .args in
+    store-lent (pageStart (a .page .0)) (a .at) (c .before .before .before .before .before .before .before .before .least .result) (c .before .before .before .before .before .before .least2 .result) (c .before .before .before .before .before .least3 .result) (a .bytes .now) (a .flash .now) (c .before .before .put .last .0)
+    (c .before .before .before .before .before .before .before .before .least .ensures ∙ rw (c .before .before .before .before .before .before .before .before .before .less .ensures)) (c .before .before .before .before .before .before .least2 .ensures) (c .before .before .before .before .before .least3 .ensures ∙ rw (c .before .before .before .before .before .before .before .page-start .ensures)) (c .before .before .put .ensures)
+
+pub store-spec : {M : Type 1} → statement M
+store-spec =
+    tie.close
+    (tie.spec
+    less-requires
+    least-requires
+    page-start-requires
+    least-requires-2
+    add-least
+    least-requires-3
+    sub-put
+    part-put-start
+    part-put-end
+    slice-aggregate-put
+    put-requires
+    same-length
+    returns)

@@ -1,0 +1,4 @@
+pub mod Geometry
+pub mod Fields
+pub mod Operations
+pub mod Patch

@@ -1,0 +1,48 @@
+// The shape of the lent flash, and the part of it that a page is.
+use types::config::MAX_PAGE_COUNT;
+use types::config::PAGE_SIZE;
+use types::num::least;
+use types::page_id::PageID;
+use types::refusal::Refusal;
+use types::refusal::Verdict;
+ghost use mathlib.Core.Path.{_≡_};
+ghost use lib.ListN.{length};
+ghost use Rattle.flash.specs.Geometry.{flashVerdict, pageCount, pageStart, hasPage, pageOf};
+
+// Fine, or 5 where a flash of this many bytes is not 1 to 256 whole pages.
+pub fn check_flash(bytes: usize) -> Verdict
+    ensures answers { λ r. ⌜ r ≡ flashVerdict bytes ⌝ }
+{
+    if (bytes % PAGE_SIZE == 0) & (PAGE_SIZE <= bytes) & (bytes <= MAX_PAGE_COUNT * PAGE_SIZE) {
+        Verdict::Fine
+    } else {
+        Verdict::Refused(Refusal::BadFlash)
+    }
+}
+
+pub fn page_count(bytes: usize) -> usize
+    ensures answers { λ r. ⌜ r ≡ pageCount bytes ⌝ }
+{
+    bytes / PAGE_SIZE
+}
+
+pub fn has_page(bytes: usize, page: PageID) -> bool
+    ensures answers { λ r. ⌜ r ≡ hasPage bytes (page .0) ⌝ }
+{
+    page.index() < page_count(bytes)
+}
+
+pub fn page_start(page: PageID) -> usize
+    ensures answers { λ r. ⌜ r ≡ pageStart (page .0) ⌝ }
+{
+    page.index() * PAGE_SIZE
+}
+
+// The bytes of a page, which are none where the flash ends before it.
+pub fn page_of(flash: &[u8], page: PageID) -> &[u8]
+    ensures answers { λ r. ⌜ now r ≡ pageOf (page .0) (now (flash .entry)) ⌝ }
+{
+    let start = least(page_start(page), flash.len());
+    let end = least(start + PAGE_SIZE, flash.len());
+    &flash[start..end]
+}

@@ -1,0 +1,82 @@
+// The operations on a page, and the number of them that is left.
+//
+// The forms with `_if` make a call's list of operations a line each, with no branch between them: where one is cut none is
+// left, so the later ones make nothing.
+use crate::geometry::page_start;
+use crate::part;
+use types::config::PAGE_SIZE;
+use types::num::least;
+use types::num::less;
+use types::page_id::PageID;
+ghost use mathlib.Core.Path.{_≡_};
+ghost use Rattle.flash.specs.Geometry.{pageStart};
+ghost use Rattle.flash.specs.Operations.{Op, opIf, made, spent, allowed};
+
+// Whether what was due was made, and how many operations are left.
+pub struct Spent {
+    pub ok: bool,
+    pub left: usize,
+}
+
+// One store into the page, from the offset on.
+pub fn store(flash: &mut [u8], page: PageID, at: usize, bytes: &[u8])
+    ensures bytes { λ _. ⌜ now (flash .exit) ≡ made (pageStart (page .0)) (Op.store at (now (bytes .entry))) (now (flash .entry)) ⌝ }
+{
+    let n = least(bytes.len(), less(PAGE_SIZE, at));
+    let from = least(page_start(page) + least(at, PAGE_SIZE), flash.len());
+    part::put(&mut flash[from..], &bytes[..n]);
+}
+
+// One erase of the page.
+pub fn erase(flash: &mut [u8], page: PageID, value: u8)
+    ensures bytes { λ _. ⌜ now (flash .exit) ≡ made (pageStart (page .0)) (Op.erase value) (now (flash .entry)) ⌝ }
+{
+    let start = least(page_start(page), flash.len());
+    let end = least(start + PAGE_SIZE, flash.len());
+    part::wipe(&mut flash[start..end], value);
+}
+
+// What one operation of any kind spends, if it is due.
+fn spend(due: bool, left: usize) -> Spent
+    ensures answers { λ r. ⌜ ((op : Op) → r ≡ spent left (opIf due op)) ⌝ }
+{
+    if due {
+        Spent {
+            ok: left != 0,
+            left: less(left, 1),
+        }
+    } else {
+        Spent { ok: true, left }
+    }
+}
+
+// One store, if it is due and one is left.
+pub fn store_if(
+    due: bool,
+    flash: &mut [u8],
+    page: PageID,
+    at: usize,
+    bytes: &[u8],
+    left: usize,
+) -> Spent
+    ensures answers { λ r. ⌜ r ≡ spent left (opIf due (Op.store at (now (bytes .entry)))) ⌝ }
+    ensures bytes { λ _. ⌜ now (flash .exit) ≡ allowed (pageStart (page .0)) left (opIf due (Op.store at (now (bytes .entry)))) (now (flash .entry)) ⌝ }
+{
+    let spent = spend(due, left);
+    if due & (left != 0) {
+        store(flash, page, at, bytes);
+    }
+    spent
+}
+
+// One erase of the page, if it is due and one is left.
+pub fn erase_if(due: bool, flash: &mut [u8], page: PageID, value: u8, left: usize) -> Spent
+    ensures answers { λ r. ⌜ r ≡ spent left (opIf due (Op.erase value)) ⌝ }
+    ensures bytes { λ _. ⌜ now (flash .exit) ≡ allowed (pageStart (page .0)) left (opIf due (Op.erase value)) (now (flash .entry)) ⌝ }
+{
+    let spent = spend(due, left);
+    if due & (left != 0) {
+        erase(flash, page, value);
+    }
+    spent
+}
