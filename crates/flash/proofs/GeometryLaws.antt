@@ -7,11 +7,12 @@ use Prim.Native.Nat.{ℕ, _+_, _-_, _*_, _/_, _%_, _≤_, _<_, min}
 use native.Mathlib.Omega.{arith}
 use lib.Dec.{eqb, leb}
 use lib.ListN.{length, take, drop, length-take, length-drop, drop-of-length-le}
-use lib.Seq.{take-all, take-nil}
+use lib.Seq.{take-nil}
 use borrow.Author.Tests.{eqb-true, leb-true, eq-eqb, le-leb}
 use Rattle.types.specs.Build.{pageSize}
 use Rattle.types.proofs.TestLaws.{both-true, le-or-lt}
-use Rattle.flash.specs.Geometry.{flashFine, pageCount, pageStart, pageOf}
+use Rattle.flash.specs.Geometry.{flashFine, pageCount, pageStart}
+use Rattle.flash.proofs.PatchLaws.{take-least}
 
 -- a fine flash is 1 to 256 whole pages, and the other way round
 pub fine-whole : (n : ℕ) → flashFine n ≡ true → (n ≡ pageCount n * pageSize) × ((1 ≤ pageCount n) × (pageCount n ≤ 256))
@@ -34,22 +35,18 @@ page-inside n p h = omega arith
 pub length-page : (base : ℕ) (xs : List ℕ) → base + pageSize ≤ length xs → length (take pageSize (drop base xs)) ≡ pageSize
 length-page base xs h = simp (length-take, length-drop) (omega arith)
 
--- a page as the part from where it starts, or the end, to where it ends, or the end
-pub page-lent : (p : ℕ) (xs : List ℕ) (start end : ℕ) → start ≡ min (pageStart p) (length xs) → end ≡ min (start + pageSize) (length xs)
-    → take (end - start) (drop start xs) ≡ pageOf p xs
-page-lent p xs start end s e =
+-- a part from a start that is not past the end, to an end that is not past it either
+pub part-lent : (xs : List ℕ) (from count start end : ℕ) → start ≡ min from (length xs) → end ≡ start + min count (length xs - start)
+    → take (end - start) (drop start xs) ≡ take count (drop from xs)
+part-lent xs from count start end s e =
     ⊎-elim
-    (λ inside.
-    let a : start ≡ p * 4096 = omega arith in
-    ⊎-elim
-    (λ whole. let k : end - start ≡ 4096 = omega arith in rw (k, a))
-    (λ short.
-    let k : end - start ≡ length xs - p * 4096 = omega arith in
-    let l : length (drop (p * 4096) xs) ≡ length xs - p * 4096 = length-drop (p * 4096) xs in
-    rw (k, a) (take-all (length xs - p * 4096) (drop (p * 4096) xs) (omega arith) ∙ sym (take-all 4096 (drop (p * 4096) xs) (omega arith))))
-    (le-or-lt (p * 4096 + 4096) (length xs)))
-    (λ past.
+    (λ (inside : from ≤ length xs).
+    let a : start ≡ from = omega arith in
+    let l : length (drop from xs) ≡ length xs - from = length-drop from xs in
+    let k : end - start ≡ min (length (drop from xs)) count = omega arith in
+    ap (λ (i : ℕ). take (end - start) (drop i xs)) a ∙ take-least (end - start) count (drop from xs) k)
+    (λ (past : length xs < from).
     let a : length xs ≤ start = omega arith in
-    let b : length xs ≤ p * 4096 = omega arith in
-    ap (take (end - start)) (drop-of-length-le xs a) ∙ take-nil (end - start) ∙ sym (ap (take 4096) (drop-of-length-le xs b) ∙ take-nil 4096))
-    (le-or-lt (p * 4096) (length xs))
+    let b : length xs ≤ from = omega arith in
+    ap (take (end - start)) (drop-of-length-le xs a) ∙ take-nil (end - start) ∙ sym (ap (take count) (drop-of-length-le xs b) ∙ take-nil count))
+    (le-or-lt from (length xs))

@@ -11,7 +11,7 @@ use Rattle.types.specs.Build.{pageSize}
 use Rattle.types.proofs.TestLaws.{le-or-lt}
 use Rattle.flash.specs.Geometry.{pageStart}
 use Rattle.flash.specs.Patch.{over, patch, blank}
-use Rattle.flash.proofs.PatchLaws.{patch-none, patch-past}
+use Rattle.flash.proofs.PatchLaws.{patch-none, patch-past, take-least}
 
 patch-part : (at : ℕ) (bytes xs : List ℕ) → at ≤ length xs → take at xs ++ over bytes (drop at xs) ≡ patch at bytes xs
 unfolding patch
@@ -25,13 +25,6 @@ put-back : (at n : ℕ) (bytes xs ys : List ℕ) → at ≤ length xs → n ≡ 
 put-back at n bytes xs ys h e y =
     let l : length (drop at xs) ≤ n = simp length-drop (omega arith) in
     rw (y, take-all n (drop at xs) l, drop-of-length-le (drop at xs) l, append-nil) (patch-part at bytes xs h)
-
-take-least : (n k : ℕ) (xs : List ℕ) → n ≡ min (length xs) k → take n xs ≡ take k xs
-take-least n k xs e =
-    ⊎-elim
-    (λ h. take-all n xs (omega arith) ∙ sym (take-all k xs h))
-    (λ h. let f : n ≡ k = omega arith in ap (λ (m : ℕ). take m xs) f)
-    (le-or-lt (length xs) k)
 
 -- a place past the end is as good as the end
 patch-least : (at from : ℕ) (bytes xs : List ℕ) → from ≡ min at (length xs) → patch from bytes xs ≡ patch at bytes xs

@@ -177,6 +177,15 @@ patch-cover zero a b xs h = over-cover a b xs h
 patch-cover (suc at) a b [] h = refl
 patch-cover (suc at) a b (x ∷ xs) h = ap (λ (l : List ℕ). x ∷ l) (patch-cover at a b xs h)
 
+-- ---- a number of bytes that is cut to what there is
+
+pub take-least : (n k : ℕ) (xs : List ℕ) → n ≡ min (length xs) k → take n xs ≡ take k xs
+take-least n k xs e =
+    ⊎-elim
+    (λ h. take-all n xs (omega arith) ∙ sym (take-all k xs h))
+    (λ h. let f : n ≡ k = omega arith in ap (λ (m : ℕ). take m xs) f)
+    (le-or-lt (length xs) k)
+
 -- ---- erased bytes
 
 pub length-blank : (e n : ℕ) → length (blank e n) ≡ n

@@ -1,12 +1,11 @@
 // The shape of the lent flash, and the part of it that a page is.
+use crate::part::part_of;
 use types::config::MAX_PAGE_COUNT;
 use types::config::PAGE_SIZE;
-use types::num::least;
 use types::page_id::PageID;
 use types::refusal::Refusal;
 use types::refusal::Verdict;
 ghost use mathlib.Core.Path.{_≡_};
-ghost use lib.ListN.{length};
 ghost use Rattle.flash.specs.Geometry.{flashVerdict, pageCount, pageStart, hasPage, pageOf};
 
 // Fine, or 5 where a flash of this many bytes is not 1 to 256 whole pages.
@@ -42,7 +41,5 @@ pub fn page_start(page: PageID) -> usize
 pub fn page_of(flash: &[u8], page: PageID) -> &[u8]
     ensures answers { λ r. ⌜ now r ≡ pageOf (page .0) (now (flash .entry)) ⌝ }
 {
-    let start = least(page_start(page), flash.len());
-    let end = least(start + PAGE_SIZE, flash.len());
-    &flash[start..end]
+    part_of(flash, page_start(page), PAGE_SIZE)
 }

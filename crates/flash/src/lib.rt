@@ -2,4 +2,4 @@
 pub mod field;
 pub mod geometry;
 pub mod ops;
-mod part;
+pub mod part;

@@ -1,8 +1,18 @@
-// What a store and an erase do to the part of the flash that is lent on to them.
+// Parts of lent bytes: any part can be asked for, and a part of the flash is lent on to a store or an erase.
 use types::num::least;
+use types::num::less;
 ghost use mathlib.Core.Path.{_≡_};
-ghost use lib.ListN.{length};
+ghost use lib.ListN.{length, take, drop};
 ghost use Rattle.flash.specs.Patch.{over, blank};
+
+// The bytes from an index on, so many of them as there are up to a number.
+pub fn part_of(bytes: &[u8], from: usize, count: usize) -> &[u8]
+    ensures answers { λ r. ⌜ now r ≡ take count (drop from (now (bytes .entry))) ⌝ }
+{
+    let start = least(from, bytes.len());
+    let end = start + least(count, less(bytes.len(), start));
+    &bytes[start..end]
+}
 
 // Puts the bytes over the part's start, as far as they fit.
 pub fn put(part: &mut [u8], bytes: &[u8])
