@@ -1,0 +1,4 @@
+// The words of a script: the text that the replay programs read, a call a line.
+pub mod hex;
+pub mod space;
+pub mod words;
