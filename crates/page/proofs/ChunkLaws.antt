@@ -1,0 +1,154 @@
+-- One chunk: what its header's tests come to, and which bytes they look at. Assumes nothing.
+use mathlib.Core.Path.{_≡_, refl, sym, ap, _∙_}
+use mathlib.Core.Bool.{Bool, true, false, cond}
+use mathlib.Core.List.{List}
+use mathlib.Core.Logic.{⊎-elim}
+use Prim.Native.Nat.{ℕ, _+_, _≤_, _<_}
+use native.Mathlib.Omega.{arith}
+use lib.Dec.{eqb, ltb}
+use lib.ListN.{length, take, drop, length-drop}
+use lib.Seq.{take-all, drop-drop}
+use borrow.Author.Tests.{eqb-true, ltb-false, eq-eqb, ne-eqb, lt-ltb, le-ltb}
+use Rattle.types.specs.Build.{pageSize, chunkHeaderSize, maxChunkSize}
+use Rattle.types.proofs.TestLaws.{le-or-lt}
+use Rattle.crc.specs.Published.{published}
+use Rattle.flash.specs.Fields.{field}
+use Rattle.page.specs.Chunks.{chunkMagic, nextOffset, chunkOf, chunkAt, payloadAt, sumChecked, checkedAt}
+use Rattle.page.specs.declared.chunk.Step.{Step}
+use Rattle.page.specs.declared.chunk.Step.the-variants.{End, Corrupted, Chunk}
+use Rattle.page.proofs.BelowLaws.{field-below, field-above}
+
+-- ---- from the tests to what stands at o
+
+module _ (page : List ℕ) (o : ℕ) where
+  pub chunk-past : pageSize < o + chunkHeaderSize → chunkAt page o ≡ End
+  unfolding chunkAt
+  chunk-past h = rw (lt-ltb 4096 (o + 8) h)
+
+  pub chunk-unmarked : (field 2 page o ≡ chunkMagic → ⊥) → chunkAt page o ≡ End
+  unfolding chunkAt
+  chunk-unmarked n =
+      ⊎-elim (λ h. rw (le-ltb 4096 (o + 8) h, ne-eqb (field 2 page o) chunkMagic n)) chunk-past (le-or-lt (o + 8) 4096)
+
+  module _ (room : o + chunkHeaderSize ≤ pageSize) (mark : field 2 page o ≡ chunkMagic) where
+    pub chunk-marked : chunkAt page o ≡ chunkOf o (field 2 page (o + 2)) (field 4 page (o + 4))
+    unfolding chunkAt
+    chunk-marked = rw (le-ltb 4096 (o + 8) room, eq-eqb (field 2 page o) chunkMagic mark)
+
+    pub chunk-long : maxChunkSize < field 2 page (o + 2) → chunkAt page o ≡ Corrupted
+    chunk-long h = chunk-marked ∙ rw (lt-ltb 4076 (field 2 page (o + 2)) h)
+
+    pub chunk-over : field 2 page (o + 2) ≤ maxChunkSize → pageSize < o + chunkHeaderSize + field 2 page (o + 2) → chunkAt page o ≡ Corrupted
+    chunk-over small h = chunk-marked ∙ rw (le-ltb 4076 (field 2 page (o + 2)) small, lt-ltb 4096 (o + 8 + field 2 page (o + 2)) h)
+
+    pub chunk-whole : field 2 page (o + 2) ≤ maxChunkSize → o + chunkHeaderSize + field 2 page (o + 2) ≤ pageSize
+        → chunkAt page o ≡ Chunk (field 2 page (o + 2)) (field 4 page (o + 4)) (nextOffset o (field 2 page (o + 2)))
+    chunk-whole small fits = chunk-marked ∙ rw (le-ltb 4076 (field 2 page (o + 2)) small, le-ltb 4096 (o + 8 + field 2 page (o + 2)) fits)
+
+-- ---- and back
+
+-- what a chunk at o says of the page
+pub record Found (page : List ℕ) (o len crc next : ℕ) : Type 0 where
+  pub mark : field 2 page o ≡ chunkMagic
+  pub long : field 2 page (o + 2) ≡ len
+  pub sum : field 4 page (o + 4) ≡ crc
+  pub small : len ≤ maxChunkSize
+  pub fits : o + chunkHeaderSize + len ≤ pageSize
+  pub after : next ≡ nextOffset o len
+
+passed : (past marked long over : Bool) (a b c len crc next : ℕ)
+    → cond past End (cond marked (cond long Corrupted (cond over Corrupted (Chunk a b c))) End) ≡ Chunk len crc next
+    → ((marked ≡ true) × ((long ≡ false) × (over ≡ false))) × ((a ≡ len) × ((b ≡ crc) × (c ≡ next)))
+passed true marked long over a b c len crc next e = let z : _≡_ {A = ℕ} 0 1 = cc in absurd (omega arith)
+passed false false long over a b c len crc next e = let z : _≡_ {A = ℕ} 0 1 = cc in absurd (omega arith)
+passed false true true over a b c len crc next e = let z : _≡_ {A = ℕ} 0 1 = cc in absurd (omega arith)
+passed false true false true a b c len crc next e = let z : _≡_ {A = ℕ} 0 1 = cc in absurd (omega arith)
+passed false true false false a b c len crc next e = ((refl, (refl, refl)), (cc, (cc, cc)))
+
+pub chunk-found : (page : List ℕ) (o len crc next : ℕ) → chunkAt page o ≡ Chunk len crc next → Found page o len crc next
+unfolding chunkAt
+chunk-found page o len crc next e =
+    let l = field 2 page (o + 2) in
+    let p =
+    passed (ltb 4096 (o + 8)) (eqb (field 2 page o) chunkMagic) (ltb 4076 l) (ltb 4096 (o + 8 + l)) l (field 4 page (o + 4)) (nextOffset o l) len crc next e in
+    let f : l ≡ len = p .1 .0 in
+    record {
+      mark = eqb-true (field 2 page o) chunkMagic (p .0 .0);
+      long = f;
+      sum = p .1 .1 .0;
+      small = rw f at (ltb-false 4076 l (p .0 .1 .0));
+      fits = rw f at (ltb-false 4096 (o + 8 + l) (p .0 .1 .1));
+      after = sym (p .1 .1 .1) ∙ ap (nextOffset o) f;
+    }
+
+-- the next offset is at or past the chunk's end, and within the page
+pub next-up : (page : List ℕ) (o len crc next : ℕ) → chunkAt page o ≡ Chunk len crc next → (o + chunkHeaderSize + len ≤ next) × (next ≤ pageSize)
+next-up page o len crc next e =
+    let f = chunk-found page o len crc next e in
+    let fits : o + 8 + len ≤ 4096 = f .fits in
+    let after : next ≡ nextOffset o len = f .after in
+    (omega arith, omega arith)
+
+-- ---- which bytes count
+
+-- the header's eight alone
+pub chunk-below : (o e : ℕ) (p q : List ℕ) → o + chunkHeaderSize ≤ e → take e q ≡ take e p → chunkAt q o ≡ chunkAt p o
+unfolding chunkAt
+chunk-below o e p q h a =
+    let f = field-below 2 o e p q (omega arith) a in
+    let g = field-below 2 (o + 2) e p q (omega arith) a in
+    let k = field-below 4 (o + 4) e p q (omega arith) a in
+    rw (f, g, k)
+
+pub chunk-above : (s o : ℕ) (p q : List ℕ) → s ≤ o → drop s q ≡ drop s p → chunkAt q o ≡ chunkAt p o
+unfolding chunkAt
+chunk-above s o p q h a =
+    let f = field-above 2 s o p q h a in
+    let g = field-above 2 s (o + 2) p q (omega arith) a in
+    let k = field-above 4 s (o + 4) p q (omega arith) a in
+    rw (f, g, k)
+
+-- ---- the sum
+
+pub checked-end : (page : List ℕ) (o : ℕ) → chunkAt page o ≡ End → checkedAt page o ≡ End
+unfolding checkedAt
+checked-end page o e = rw e
+
+pub checked-bad : (page : List ℕ) (o : ℕ) → chunkAt page o ≡ Corrupted → checkedAt page o ≡ Corrupted
+unfolding checkedAt
+checked-bad page o e = rw e
+
+pub checked-right : (page : List ℕ) (o len crc next : ℕ) → chunkAt page o ≡ Chunk len crc next → published (payloadAt page o len) ≡ crc
+    → checkedAt page o ≡ Chunk len crc next
+unfolding checkedAt
+checked-right page o len crc next e s = rw e (rw (eq-eqb (published (payloadAt page o len)) crc s))
+
+pub checked-wrong : (page : List ℕ) (o len crc next : ℕ) → chunkAt page o ≡ Chunk len crc next → (published (payloadAt page o len) ≡ crc → ⊥)
+    → checkedAt page o ≡ Corrupted
+unfolding checkedAt
+checked-wrong page o len crc next e s = rw e (rw (ne-eqb (published (payloadAt page o len)) crc s))
+
+-- a chunk that passes has a good header and the right sum
+pub checked-found : (page : List ℕ) (o len crc next : ℕ) → checkedAt page o ≡ Chunk len crc next
+    → (chunkAt page o ≡ Chunk len crc next) × (published (payloadAt page o len) ≡ crc)
+unfolding checkedAt
+checked-found page o len crc next e = by (chunkAt page o) e
+  where
+    right : (a b c : ℕ) (t : Bool) → eqb (published (payloadAt page o a)) b ≡ t → cond t (Chunk a b c) Corrupted ≡ Chunk len crc next
+        → (Chunk a b c ≡ Chunk len crc next) × (published (payloadAt page o len) ≡ crc)
+    right a b c true t e =
+        let f : a ≡ len = cc in
+        let g : b ≡ crc = cc in
+        (e, rw (f, g) at (eqb-true (published (payloadAt page o a)) b t))
+    right a b c false t e = let z : _≡_ {A = ℕ} 0 1 = cc in absurd (omega arith)
+
+    by : (s : Step) → sumChecked page o s ≡ Chunk len crc next → (s ≡ Chunk len crc next) × (published (payloadAt page o len) ≡ crc)
+    by End e = let z : _≡_ {A = ℕ} 0 1 = cc in absurd (omega arith)
+    by Corrupted e = let z : _≡_ {A = ℕ} 0 1 = cc in absurd (omega arith)
+    by (Chunk a b c) e = right a b c (eqb (published (payloadAt page o a)) b) refl e
+
+-- a part of a part, which the payload is
+pub payload-part : (page : List ℕ) (o len : ℕ) → take len (drop chunkHeaderSize (take (length page) (drop o page))) ≡ payloadAt page o len
+payload-part page o len =
+    let l : length (drop o page) ≤ length page = simp length-drop (omega arith) in
+    ap (λ (x : List ℕ). take len (drop 8 x)) (take-all (length page) (drop o page) l) ∙ ap (take len) (drop-drop 8 o page)

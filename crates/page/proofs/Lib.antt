@@ -1,0 +1,10 @@
+pub mod BelowLaws
+pub mod ChunkLaws
+pub mod ErasedLaws
+pub mod HeaderLaws
+pub mod LaidLaws
+pub mod OntoLaws
+pub mod PutLaws
+pub mod SumLaws
+pub mod WalkLaws
+pub mod WalkTableLaws

@@ -1,0 +1,94 @@
+-- `page::chunk::chunk_at` meets its contract. Assumes nothing.
+use Prim.Native.Nat.{_+_, _≤_, _<_}
+use mathlib.Core.Path.{sym, _∙_}
+use native.Mathlib.Omega.{arith}
+use Rattle.page.proofs.ChunkLaws.{chunk-past, chunk-unmarked, chunk-long, chunk-over, chunk-whole}
+use borrow.Author.Needs.{needs}
+use Rattle.page.proofs.chunk.chunk_at.Statement.{statement}
+use Rattle.page.proofs.chunk.chunk_at.Tie as tie
+
+sub-if1 : tie.Need-sub-if1
+sub-if1 c = search needs
+
+returns : tie.Need-returns
+returns c =
+    let a = c .before .before .args in
+    let h : 4096 < a .at + 8 = omega arith in
+    sym (chunk-past (a .page .now) (a .at) h)
+
+get16-requires : tie.Need-get16-requires
+get16-requires c κs = search needs
+
+returns-2 : tie.Need-returns-2
+returns-2 c =
+    let a = c .before .before .before .before .args in
+    sym (chunk-unmarked (a .page .now) (a .at) (λ q. c .if2 .taken (c .before .get16 .ensures ∙ q)))
+
+add-get16 : tie.Need-add-get16
+add-get16 c = search needs
+
+get16-requires-2 : tie.Need-get16-requires-2
+get16-requires-2 c κs = search needs
+
+cast-len : tie.Need-cast-len
+cast-len c = search needs
+
+returns-3 : tie.Need-returns-3
+returns-3 c =
+    let a = c .before .before .before .before .before .before .args in
+    let room : a .at + 8 ≤ 4096 = omega arith in
+    sym (chunk-long (a .page .now) (a .at) room (sym (c .before .before .before .get16 .ensures) ∙ c .before .before .if2 .left) (rw (c .before .get162 .ensures) at (c .if3 .taken)))
+
+add-end : tie.Need-add-end
+add-end c = search needs
+
+add-end-2 : tie.Need-add-end-2
+add-end-2 c = search needs
+
+returns-4 : tie.Need-returns-4
+returns-4 c =
+    let a = c .before .before .before .before .before .before .before .args in
+    let room : a .at + 8 ≤ 4096 = omega arith in
+    let len = c .before .before .get162 .ensures in
+    sym (chunk-over (a .page .now) (a .at) room (sym (c .before .before .before .before .get16 .ensures) ∙ c .before .before .before .if2 .left) (rw len at (c .before .if3 .left)) (rw len at (c .if4 .taken)))
+
+add-get32 : tie.Need-add-get32
+add-get32 c = search needs
+
+get32-requires : tie.Need-get32-requires
+get32-requires c κs = search needs
+
+cast-align-up : tie.Need-cast-align-up
+cast-align-up c = search needs
+
+align-up-requires : tie.Need-align-up-requires
+align-up-requires c κs = search needs
+
+returns-5 : tie.Need-returns-5
+returns-5 c =
+    let a = c .before .before .before .before .before .before .before .before .before .args in
+    let room : a .at + 8 ≤ 4096 = omega arith in
+    let len = c .before .before .before .before .get162 .ensures in
+    rw (c .align-up .ensures, c .before .get32 .ensures, len)
+    (sym (chunk-whole (a .page .now) (a .at) room (sym (c .before .before .before .before .before .before .get16 .ensures) ∙ c .before .before .before .before .before .if2 .left) (rw len at (c .before .before .before .if3 .left)) (rw len at (c .before .before .if4 .left))))
+
+pub chunk-at-spec : {M : Type 1} → statement M
+chunk-at-spec =
+    tie.close
+    (tie.spec
+    sub-if1
+    returns
+    get16-requires
+    returns-2
+    add-get16
+    get16-requires-2
+    cast-len
+    returns-3
+    add-end
+    add-end-2
+    returns-4
+    add-get32
+    get32-requires
+    cast-align-up
+    align-up-requires
+    returns-5)

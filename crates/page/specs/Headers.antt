@@ -1,0 +1,34 @@
+-- The page header: magic u32, page number u32, the sum of the h bytes, then those bytes (document 01, 'Bytes on a page', row 6).
+-- Assumes nothing.
+use mathlib.Core.Bool.{Bool, cond, _&&_}
+use mathlib.Core.List.{List, _++_}
+use Prim.Native.Nat.{ℕ, _%_}
+use lib.Dec.{eqb, leb}
+use lib.ListN.{take, drop}
+use Rattle.types.specs.Build.{align, pageHeaderSize, maxHeaderSize}
+use Rattle.types.specs.Bytes.{bytesOf}
+use Rattle.types.specs.declared.refusal.Refusal.the-variants.{BadHeader}
+use Rattle.types.specs.declared.refusal.Verdict.{Verdict}
+use Rattle.types.specs.declared.refusal.Verdict.the-variants.{Fine, Refused}
+use Rattle.crc.specs.Published.{published}
+use Rattle.flash.specs.Fields.{field}
+
+-- whether h is a multiple of 4 from 0 to 64
+abbrev pub headerFine : ℕ → Bool
+headerFine h = eqb (h % align) 0 && leb h maxHeaderSize
+
+-- h is fine, or it is 6
+abbrev pub headerVerdict : ℕ → Verdict
+headerVerdict h = cond (headerFine h) Fine (Refused BadHeader)
+
+-- the header of page p with the higher header's bytes
+unfoldable pub pageHeader : ℕ → ℕ → List ℕ → List ℕ
+pageHeader magic p header = bytesOf 4 magic ++ (bytesOf 4 p ++ (bytesOf 4 (published header) ++ header))
+
+-- the higher header's h bytes on a page
+abbrev pub headerOf : List ℕ → ℕ → List ℕ
+headerOf page h = take h (drop pageHeaderSize page)
+
+-- whether a page has this magic, this number, and the right sum over its h bytes
+unfoldable pub pageHeaderFine : List ℕ → ℕ → ℕ → ℕ → Bool
+pageHeaderFine page magic p h = eqb (field 4 page 0) magic && eqb (field 4 page 4) p && eqb (field 4 page 8) (published (headerOf page h))

@@ -1,0 +1,28 @@
+-- Document 01's numbers to try on the walk, as a table of cases. A page of erased bytes gets a chunk header at the offset, as
+-- far as it fits, and the walk looks there. Assumes nothing.
+use mathlib.Core.List.{List, [], _∷_}
+use Prim.Native.Nat.{ℕ}
+use Rattle.types.specs.Build.{pageSize, eraseValue}
+use Rattle.flash.specs.Patch.{patch, blank}
+use Rattle.page.specs.Chunks.{chunkHeader, chunkAt}
+use Rattle.page.specs.declared.chunk.Step.{Step}
+use Rattle.page.specs.declared.chunk.Step.the-variants.{End, Corrupted, Chunk}
+
+-- a header with this length at this offset, and what the walk is to find there
+pub record WalkCase : Type 0 where
+  pub offset : ℕ
+  pub len : ℕ
+  pub finds : Step
+
+abbrev pub walkCases : List WalkCase
+walkCases =
+    record { offset = 4088; len = 0; finds = Chunk 0 0 4096 }
+    ∷ record { offset = 4092; len = 0; finds = End }
+    ∷ record { offset = 12; len = 4076; finds = Chunk 4076 0 4096 }
+    ∷ record { offset = 16; len = 4076; finds = Corrupted }
+    ∷ record { offset = 12; len = 4077; finds = Corrupted }
+    ∷ []
+
+-- what the walk does find
+unfoldable pub walkOutcome : WalkCase → Step
+walkOutcome c = chunkAt (patch (c .offset) (chunkHeader (c .len) 0) (blank eraseValue pageSize)) (c .offset)
