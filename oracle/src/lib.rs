@@ -8,6 +8,9 @@
 #[macro_use]
 mod stand_ins;
 
+pub mod script;
+pub mod world;
+
 pub use stand_ins::record::Database;
 pub use stand_ins::{block_on, config, errors, file, flash, heads, heapless, record};
 
