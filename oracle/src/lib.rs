@@ -8,6 +8,10 @@
 #[macro_use]
 mod stand_ins;
 
+pub mod fixed;
+pub mod gen;
+mod images;
+mod rng;
 pub mod script;
 pub mod world;
 

@@ -1,8 +1,11 @@
-//! `oracle run`, `rules` or `raw` answers a script from standard input.
+//! `oracle run`, `rules` or `raw` answers a script from standard input; `gen` makes a random one, `fixed` one to record.
 use oracle::world::{Mode, World};
+use oracle::{fixed, gen};
 use std::io::{BufRead, BufWriter, Write};
 
-const USAGE: &str = "usage: oracle run|rules|raw < SCRIPT";
+const USAGE: &str = "usage: oracle run|rules|raw < SCRIPT
+       oracle gen --seed S --calls N --part crc|alloc|reader|writer|cursor|all
+       oracle fixed crc|alloc|reader|writer|cursor";
 
 fn main() {
     let arguments: Vec<String> = std::env::args().skip(1).collect();
@@ -11,6 +14,8 @@ fn main() {
         ["run"] => answer(Mode::Run),
         ["rules"] => answer(Mode::Rules),
         ["raw"] => answer(Mode::Raw),
+        ["gen", "--seed", seed, "--calls", calls, "--part", part] => generate(seed, calls, part),
+        ["fixed", name] => record(name),
         _ => stop(USAGE),
     }
 }
@@ -27,6 +32,24 @@ fn answer(mode: Mode) {
                 stop(&format!("oracle: line {}: {why}", i + 1))
             }
         }
+    }
+}
+
+fn generate(seed: &str, calls: &str, part: &str) {
+    let (Ok(seed), Ok(calls)) = (seed.parse(), calls.parse()) else {
+        stop(USAGE)
+    };
+    let mut out = BufWriter::new(std::io::stdout().lock());
+    if !gen::script(seed, calls, part, &mut out) {
+        stop(USAGE);
+    }
+}
+
+fn record(name: &str) {
+    let Some(lines) = fixed::script(name) else { stop(USAGE) };
+    let mut out = BufWriter::new(std::io::stdout().lock());
+    for line in lines {
+        writeln!(out, "{line}").unwrap();
     }
 }
 

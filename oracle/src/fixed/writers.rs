@@ -1,0 +1,118 @@
+//! The writer: every short payload in random parts, the long ones, every h, and cuts after every store.
+use super::any;
+use crate::rng::Rng;
+use crate::script::hex;
+
+pub fn writers() -> Vec<String> {
+    let mut calls = Calls {
+        rng: Rng::new(3),
+        list: Vec::new(),
+    };
+    for length in 0..=40 {
+        calls.short(length, 4 * (length % 17));
+    }
+    for (length, h) in [(4075, 0), (4076, 0), (4077, 0), (4072, 4), (4073, 4)] {
+        calls.long(length, h);
+    }
+    for length in [1, 4, 5, 11] {
+        for left in 0..=3 {
+            calls.cut(length, left);
+        }
+    }
+    for left in 0..=4 {
+        calls.cut_from_the_erase(left);
+    }
+    calls.limits();
+    calls.list
+}
+
+struct Calls {
+    rng: Rng,
+    list: Vec<String>,
+}
+
+impl Calls {
+    fn say(&mut self, lines: &str) {
+        self.list.extend(lines.split('|').map(String::from));
+    }
+
+    /// A new page with its header.
+    fn page(&mut self, h: usize) {
+        let header = hex(&any(&mut self.rng, h));
+        self.say(&format!(
+            "flash pages 1|writer left 1000|writer open 0 {h}|writer write_header 000000a1 {header}"
+        ));
+    }
+
+    /// So many bytes in parts of up to so many, then the commit.
+    fn payload(&mut self, length: usize, part: usize) {
+        let data = any(&mut self.rng, length);
+        let mut rest = &data[..];
+        while !rest.is_empty() {
+            let (now, later) = rest.split_at((1 + self.rng.below(part)).min(rest.len()));
+            self.say(&format!("writer write {}", hex(now)));
+            rest = later;
+        }
+        self.say("writer state|writer commit");
+    }
+
+    fn read_back(&mut self, h: usize) {
+        self.say(&format!("flash sum 0|reader open 000000a1 0 {h}"));
+        self.say("reader read 8192|reader read 8192|reader read 8192|reader read 8192");
+    }
+
+    /// A chunk of this length, another one, and one more after reopening.
+    fn short(&mut self, length: usize, h: usize) {
+        self.page(h);
+        self.payload(length, 9);
+        let second = 1 + self.rng.below(9);
+        self.payload(second, 4);
+        self.say(&format!("writer len|writer open_append 0 {h}|writer state"));
+        self.payload(3, 3);
+        self.say("writer page_id|writer len");
+        self.read_back(h);
+    }
+
+    fn long(&mut self, length: usize, h: usize) {
+        self.page(h);
+        self.payload(length, length);
+        self.say("writer write 00|writer state");
+        self.read_back(h);
+    }
+
+    /// A chunk behind another one, with so many stores, and what is found and added afterwards.
+    fn cut(&mut self, length: usize, left: usize) {
+        self.page(0);
+        self.payload(2, 2);
+        self.say(&format!("writer open_append 0 0|writer left {left}"));
+        self.payload(length, length);
+        self.say("writer state|writer left 1000|writer open_append 0 0|writer state|writer write 0708|writer commit");
+        self.read_back(0);
+    }
+
+    /// The same from a writer whose erase is still armed.
+    fn cut_from_the_erase(&mut self, left: usize) {
+        self.say(&format!("flash fill 0 0 4096 5a|writer open 0 0|writer left {left}"));
+        self.say("writer write_header 000000a1 -|writer state|writer write 0102030405|writer state|writer commit");
+        self.say("writer state|flash sum 0|writer left 9|writer commit|flash sum 0");
+    }
+
+    /// The last offsets, no room, nothing pending, and what is refused.
+    fn limits(&mut self) {
+        for offset in [4080, 4084, 4088, 4092, 4096] {
+            self.say(&format!("writer forge 0 0 0 ffffffff 00000000 0 {offset} 0"));
+            self.say("writer write 0102030405060708090a|writer state|writer commit|writer state");
+        }
+        self.say("writer forge 0 0 0 ffffffff 01020304 4076 12 4076|writer write 01|writer commit|writer state");
+        self.say(
+            "writer forge 0 0 1 ffffffff 01020304 3 12 3|writer commit|writer open 0 0|writer commit|writer write -",
+        );
+        self.say("writer open 1 0|writer open_append 65535 0|writer open 0 68|writer open_append 0 2|writer state");
+        self.say("writer write_header 000000a1 00|writer write_header 000000a1 00000000");
+        self.say("writer forge 0 0 0 ffffffff 00000000 0 10 0|writer write 01|writer commit|writer len|writer page_id");
+        self.say(
+            "writer write_header 000000a1 -|writer write_header 000000a1 00000000|flash bytes 4095|writer open 1 3",
+        );
+        self.say("writer write_header 000000a1 00|writer commit|flash pages 1");
+    }
+}
