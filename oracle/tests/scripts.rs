@@ -1,4 +1,4 @@
-//! Whole scripts: random ones, and those to record.
+//! Whole scripts: random ones, those to record, and those in docs/ORACLE.md.
 use oracle::script::MAX_LINE;
 use oracle::world::{answers, Mode};
 use oracle::{fixed, gen};
@@ -116,5 +116,31 @@ fn a_merge_is_the_newest_of_each_key() {
         script += &"cursor next none - 1 2\n".repeat(wanted.len());
         let told = answers(Mode::Run, &script).unwrap();
         assert_eq!(told[told.len() - wanted.len()..], wanted);
+    }
+}
+
+/// Each block of calls in the document, with the answers that stand under a call: `# ` for both ways of asking, `# raw `
+/// and `# rules ` for one.
+#[test]
+fn the_scripts_of_the_document() {
+    let text = include_str!("../../docs/ORACLE.md");
+    let blocks: Vec<&str> = text
+        .split("```script\n")
+        .skip(1)
+        .map(|rest| rest.split("```").next().unwrap())
+        .collect();
+    assert!(blocks.len() > 10);
+    for block in blocks {
+        for (mode, word, other) in [(Mode::Raw, "raw ", "rules "), (Mode::Rules, "rules ", "raw ")] {
+            let mut told = answers(mode, block).unwrap().into_iter();
+            let mut answer = String::new();
+            for line in block.lines() {
+                match line.strip_prefix("# ") {
+                    None => answer = told.next().unwrap(),
+                    Some(said) if said.starts_with(other) => {}
+                    Some(said) => assert_eq!(said.strip_prefix(word).unwrap_or(said), answer, "{block}"),
+                }
+            }
+        }
     }
 }
