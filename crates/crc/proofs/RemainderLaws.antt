@@ -1,45 +1,51 @@
 -- `divided` gives the remainder of a division by G, and the only one. Assumes nothing.
 use mathlib.Core.Path.{_≡_, refl, sym, ap, ap₂, _∙_}
-use mathlib.Core.Bool.{Bool, true, false, not}
+use mathlib.Core.Bool.{Bool, true, false, not, xor}
 use mathlib.Core.List.{List, [], _∷_, _++_}
 use Prim.Native.Nat.{ℕ, zero, suc, _+_, _≤_, suc-le-suc}
 use native.Mathlib.Nat.{suc-add, le-of-suc-le-suc, not-suc-le-zero}
 use native.Mathlib.Omega.{arith}
 use lib.ListN.{length, replicate, length-append, length-replicate}
-use Rattle.crc.specs.Published.{generator, terms, among, differ, plus, divided, dividend, message, remainder}
+use Rattle.crc.specs.Published.{generator, terms, among, plus, divided, dividend, message, remainder}
 use Rattle.crc.specs.Division.{times, product, multiplePlus, Remainder}
 
-differ-assoc : (a b c : Bool) → differ (differ a b) c ≡ differ a (differ b c)
-unfolding differ
-differ-assoc true true true = refl
-differ-assoc true true false = refl
-differ-assoc true false c = refl
-differ-assoc false b c = refl
+xor-assoc : (a b c : Bool) → xor (xor a b) c ≡ xor a (xor b c)
+unfolding xor
+xor-assoc true true true = refl
+xor-assoc true true false = refl
+xor-assoc true false true = refl
+xor-assoc true false false = refl
+xor-assoc false true true = refl
+xor-assoc false true false = refl
+xor-assoc false false true = refl
+xor-assoc false false false = refl
 
-differ-twice : (a b : Bool) → differ a (differ a b) ≡ b
-unfolding differ
-differ-twice true true = refl
-differ-twice true false = refl
-differ-twice false b = refl
+xor-twice : (a b : Bool) → xor a (xor a b) ≡ b
+unfolding xor
+xor-twice true true = refl
+xor-twice true false = refl
+xor-twice false true = refl
+xor-twice false false = refl
 
 plus-assoc : (a b c : List Bool) → plus (plus a b) c ≡ plus a (plus b c)
 unfolding plus
 plus-assoc [] b c = refl
 plus-assoc (x ∷ a) [] c = refl
 plus-assoc (x ∷ a) (y ∷ b) [] = refl
-plus-assoc (x ∷ a) (y ∷ b) (z ∷ c) = ap₂ (λ (h : Bool) (t : List Bool). h ∷ t) (differ-assoc x y z) (plus-assoc a b c)
+plus-assoc (x ∷ a) (y ∷ b) (z ∷ c) = ap₂ (λ (h : Bool) (t : List Bool). h ∷ t) (xor-assoc x y z) (plus-assoc a b c)
 
 plus-twice : (g p : List Bool) → length g ≤ length p → plus g (plus g p) ≡ p
 unfolding plus
 plus-twice [] p h = refl
 plus-twice (x ∷ g) [] h = absurd (not-suc-le-zero h)
-plus-twice (x ∷ g) (y ∷ p) h = ap₂ (λ (a : Bool) (t : List Bool). a ∷ t) (differ-twice x y) (plus-twice g p (le-of-suc-le-suc h))
+plus-twice (x ∷ g) (y ∷ p) h = ap₂ (λ (a : Bool) (t : List Bool). a ∷ t) (xor-twice x y) (plus-twice g p (le-of-suc-le-suc h))
 
 plus-none : (k : ℕ) (p : List Bool) → k ≤ length p → plus (replicate k false) p ≡ p
-unfolding plus differ
+unfolding plus xor
 plus-none zero p h = refl
 plus-none (suc k) [] h = absurd (not-suc-le-zero h)
-plus-none (suc k) (y ∷ p) h = ap (λ (t : List Bool). y ∷ t) (plus-none k p (le-of-suc-le-suc h))
+plus-none (suc k) (true ∷ p) h = ap (λ (t : List Bool). true ∷ t) (plus-none k p (le-of-suc-le-suc h))
+plus-none (suc k) (false ∷ p) h = ap (λ (t : List Bool). false ∷ t) (plus-none k p (le-of-suc-le-suc h))
 
 length-plus : (g p : List Bool) → length g ≤ length p → length (plus g p) ≡ length p
 unfolding plus
@@ -63,7 +69,7 @@ empty r = refl
 
 -- one digit more of the quotient
 more : (q : Bool) (qs r : List Bool) → multiplePlus (q ∷ qs) r ≡ q ∷ plus (times q generator) (multiplePlus qs r)
-unfolding multiplePlus product times plus differ
+unfolding multiplePlus product times plus xor
 more true qs r = ap (λ (t : List Bool). true ∷ t) (plus-assoc generator (product qs (true ∷ generator)) (replicate (length qs) false ++ r))
 more false qs r = ap (λ (t : List Bool). false ∷ t) (plus-assoc (replicate (length generator) false) (product qs (true ∷ generator)) (replicate (length qs) false ++ r))
 
@@ -157,3 +163,23 @@ remainder-is-one bs = is-one (length (message bs)) (dividend (message bs)) (leng
 pub remainder-is-the-one : (bs : List ℕ) (r : List Bool) → Remainder (dividend (message bs)) r → r ≡ remainder bs
 unfolding remainder
 remainder-is-the-one bs r d = sym (remainder-of (length (message bs)) (dividend (message bs)) r (length-dividend (message bs)) d)
+
+-- ---- dividend plus remainder is a multiple of G
+
+plus-self : (p : List Bool) → plus p p ≡ replicate (length p) false
+unfolding plus xor
+plus-self [] = refl
+plus-self (true ∷ p) = ap (λ (t : List Bool). false ∷ t) (plus-self p)
+plus-self (false ∷ p) = ap (λ (t : List Bool). false ∷ t) (plus-self p)
+
+-- the remainder, aligned with the dividend's last terms, added to it: the quotient times G, written to the same length
+pub remainder-added : (p r : List Bool) (d : Remainder p r)
+    → plus p (replicate (length (d .quotient)) false ++ r) ≡ plus (product (d .quotient) (true ∷ generator)) (replicate (length (d .quotient) + 32) false)
+unfolding multiplePlus
+remainder-added p r d =
+    let q = d .quotient in
+    let back = replicate (length q) false ++ r in
+    let l : length back ≡ length q + 32 = length-append (replicate (length q) false) r ∙ ap₂ (λ (x y : ℕ). x + y) (length-replicate (length q) false) (d .small) in
+    ap (λ (x : List Bool). plus x back) (d .whole)
+    ∙ plus-assoc (product q (true ∷ generator)) back back
+    ∙ ap (plus (product q (true ∷ generator))) (plus-self back ∙ ap (λ (n : ℕ). replicate n false) l)

@@ -4,13 +4,20 @@ use mathlib.Core.List.{List, [], _∷_}
 use Prim.Native.Nat.{ℕ, zero, suc, _+_, _*_, _^_, _≤_, _<_}
 use native.Mathlib.Nat.{add-zero}
 use native.Mathlib.Numerals.{add-one}
-use lib.ListN.{length, take, drop, getD}
+use native.Mathlib.Omega.{arith}
+use lib.ListN.{length, take, drop, getD, length-drop, List·getD-eq-default}
 use lib.Seq.{drop-drop, getD-drop}
 use Rattle.types.specs.Bytes.{word, bytesOf}
 use Rattle.types.proofs.BytesLaws.{length-bytesOf, word-bytesOf}
 use Rattle.flash.specs.Fields.{field}
 use Rattle.flash.specs.Patch.{patch}
 use Rattle.flash.proofs.PatchLaws.{part-patch}
+
+-- past the end there is nothing
+pub past-end : (at k : ℕ) (xs : List ℕ) → length xs ≤ at + k → 0 ≡ getD (drop at xs) k 0
+past-end at k xs h =
+    let short : length (drop at xs) ≤ k = simp length-drop (omega arith) in
+    sym (List·getD-eq-default (drop at xs) 0 short)
 
 -- k elements from index i on, each by itself
 unfoldable pub elements : ℕ → ℕ → List ℕ → List ℕ

@@ -11,7 +11,7 @@ use lib.Seq.{take-nil}
 use borrow.Author.Tests.{eqb-true, leb-true, eq-eqb, le-leb}
 use Rattle.types.specs.Build.{pageSize}
 use Rattle.types.proofs.TestLaws.{both-true, le-or-lt}
-use Rattle.flash.specs.Geometry.{flashFine, pageCount, pageStart}
+use Rattle.flash.specs.Geometry.{flashFine, pageCount, pageStart, pageFrom}
 use Rattle.flash.proofs.PatchLaws.{take-least}
 
 -- a fine flash is 1 to 256 whole pages, and the other way round
@@ -32,7 +32,7 @@ whole-fine k low high =
 pub page-inside : (n p : ℕ) → p < pageCount n → pageStart p + pageSize ≤ n
 page-inside n p h = omega arith
 
-pub length-page : (base : ℕ) (xs : List ℕ) → base + pageSize ≤ length xs → length (take pageSize (drop base xs)) ≡ pageSize
+pub length-page : (base : ℕ) (xs : List ℕ) → base + pageSize ≤ length xs → length (pageFrom base xs) ≡ pageSize
 length-page base xs h = simp (length-take, length-drop) (omega arith)
 
 -- a part from a start that is not past the end, to an end that is not past it either

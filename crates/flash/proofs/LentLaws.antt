@@ -35,15 +35,15 @@ patch-least at from bytes xs e =
     (le-or-lt at (length xs))
 
 -- the store of a page
-pub store-lent : (base at n m from : ℕ) (bytes xs ys : List ℕ) → n ≡ min (length bytes) (pageSize - at) → m ≡ min at pageSize → from ≡ min (base + m) (length xs)
+pub store-lent : (base at room n from : ℕ) (bytes xs ys : List ℕ) → room ≡ pageSize - at → n ≡ min (length bytes) room → from ≡ min (base + pageSize - room) (length xs)
     → ys ≡ over (take n bytes) (take (length xs - from) (drop from xs))
     → take from xs ++ (ys ++ drop (length xs - from) (drop from xs)) ≡ patch (base + at) (take (pageSize - at) bytes) xs
-store-lent base at n m from bytes xs ys e f g y =
+store-lent base at room n from bytes xs ys e f g y =
     put-back from (length xs - from) (take n bytes) xs ys (omega arith) refl y
-    ∙ ap (λ (b : List ℕ). patch from b xs) (take-least n (4096 - at) bytes e)
+    ∙ ap (λ (b : List ℕ). patch from b xs) (take-least n room bytes f ∙ ap (λ (k : ℕ). take k bytes) e)
     ∙ ⊎-elim
-    (λ h. let a : m ≡ at = omega arith in patch-least (base + at) from (take (4096 - at) bytes) xs (g ∙ ap (λ (k : ℕ). min (base + k) (length xs)) a))
-    (λ h.
+    (λ (h : at ≤ 4096). patch-least (base + at) from (take (4096 - at) bytes) xs (omega arith))
+    (λ (h : 4096 < at).
     let z : 4096 - at ≡ 0 = omega arith in
     rw z (patch-none from xs ∙ sym (patch-none (base + at) xs)))
     (le-or-lt at 4096)

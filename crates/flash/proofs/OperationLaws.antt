@@ -20,10 +20,10 @@ pub applied-append : (base : ℕ) (a b : List Op) (xs : List ℕ) → applied ba
 applied-append base [] b xs = refl
 applied-append base (op ∷ a) b xs = applied-append base a b (made base op xs)
 
-pub take-append : (n : ℕ) (a b : List Op) → take n (a ++ b) ≡ take n a ++ take (n - length a) b
+pub take-append : {A : Type 0} (n : ℕ) (a b : List A) → take n (a ++ b) ≡ take n a ++ take (n - length a) b
 take-append n [] b = rw (sub-zero, take-nil)
-take-append zero (op ∷ a) b = rw zero-sub
-take-append (suc n) (op ∷ a) b = ap (λ (l : List Op). op ∷ l) (take-append n a b ∙ rw suc-sub-suc)
+take-append zero (x ∷ a) b = rw zero-sub
+take-append {A} (suc n) (x ∷ a) b = ap (λ (l : List A). x ∷ l) (take-append n a b ∙ rw suc-sub-suc)
 
 spent-ok : (left : ℕ) (a b : List Op) → spent left (a ++ b) .ok ≡ (spent left a .ok && spent (spent left a .left) b .ok)
 spent-ok left a b =

@@ -12,7 +12,8 @@ use Rattle.types.proofs.TestLaws.{le-or-lt}
 use Rattle.flash.specs.Geometry.{pageStart, pageFrom, pageOf}
 use Rattle.flash.specs.Operations.{Op, erase, store, made, applied}
 use Rattle.flash.specs.Patch.{patch, blank}
-use Rattle.flash.proofs.PatchLaws.{length-patch, patch-none, patch-below, patch-above, take-patch, drop-patch, take-patch-below, drop-patch-above, length-blank}
+use Rattle.flash.proofs.GeometryLaws.{length-page}
+use Rattle.flash.proofs.PatchLaws.{length-patch, patch-none, patch-all, patch-in, patch-below, patch-above, take-patch, drop-patch, take-patch-below, drop-patch-above, length-blank}
 
 -- where an operation puts its bytes, and which
 abbrev pub opAt : Op → ℕ
@@ -59,6 +60,16 @@ page-made base op xs =
 pub page-applied : (base : ℕ) (ops : List Op) (xs : List ℕ) → pageFrom base (applied base ops xs) ≡ applied 0 ops (pageFrom base xs)
 page-applied base [] xs = refl
 page-applied base (op ∷ ops) xs = page-applied base ops (made base op xs) ∙ ap (applied 0 ops) (page-made base op xs)
+
+-- an erased page reads as erased
+pub page-erased : (e base : ℕ) (xs : List ℕ) → base + pageSize ≤ length xs → pageFrom base (made base (erase e) xs) ≡ blank e pageSize
+page-erased e base xs h =
+    let l : length (pageFrom base xs) ≡ 4096 = length-page base xs h in
+    page-made base (erase e) xs ∙ patch-all (blank e 4096) (pageFrom base xs) (length-blank e 4096 ∙ sym l)
+
+-- the bytes that an operation puts are there
+pub made-in : (base : ℕ) (op : Op) (xs : List ℕ) (i d : ℕ) → i < length (opBytes op) → base + opAt op + i < length xs → getD (made base op xs) (base + opAt op + i) d ≡ getD (opBytes op) i d
+made-in base op xs i d h k = ap (λ (l : List ℕ). getD l (base + opAt op + i) d) (made-patch base op xs) ∙ patch-in (base + opAt op) (opBytes op) xs i d h k
 
 -- ---- elsewhere
 

@@ -177,6 +177,29 @@ patch-cover zero a b xs h = over-cover a b xs h
 patch-cover (suc at) a b [] h = refl
 patch-cover (suc at) a b (x ∷ xs) h = ap (λ (l : List ℕ). x ∷ l) (patch-cover at a b xs h)
 
+over-swap : (at : ℕ) (a b xs : List ℕ) → length b ≤ at → patch at a (over b xs) ≡ over b (patch at a xs)
+unfolding patch over
+over-swap at a [] xs h = refl
+over-swap zero a (x ∷ b) xs h = absurd (not-suc-le-zero h)
+over-swap (suc at) a (x ∷ b) [] h = refl
+over-swap (suc at) a (x ∷ b) (y ∷ xs) h = ap (λ (l : List ℕ). x ∷ l) (over-swap at a b xs (le-of-suc-le-suc h))
+
+-- two that do not touch may change places
+pub patch-swap : (at below : ℕ) (a b xs : List ℕ) → below + length b ≤ at → patch at a (patch below b xs) ≡ patch below b (patch at a xs)
+unfolding patch
+patch-swap at zero a b xs h = over-swap at a b xs (omega arith)
+patch-swap zero (suc below) a b xs h = absurd (omega arith)
+patch-swap (suc at) (suc below) a b [] h = refl
+patch-swap (suc at) (suc below) a b (x ∷ xs) h = ap (λ (l : List ℕ). x ∷ l) (patch-swap at below a b xs (omega arith))
+
+-- all of it
+pub patch-all : (bytes xs : List ℕ) → length bytes ≡ length xs → patch 0 bytes xs ≡ bytes
+unfolding patch over
+patch-all [] [] e = refl
+patch-all [] (x ∷ xs) e = absurd (omega arith)
+patch-all (b ∷ bytes) [] e = absurd (omega arith)
+patch-all (b ∷ bytes) (x ∷ xs) e = ap (λ (l : List ℕ). b ∷ l) (patch-all bytes xs (omega arith))
+
 -- ---- a number of bytes that is cut to what there is
 
 pub take-least : (n k : ℕ) (xs : List ℕ) → n ≡ min (length xs) k → take n xs ≡ take k xs

@@ -19,16 +19,17 @@ pub struct Spent {
 }
 
 // One store into the page, from the offset on.
-pub fn store(flash: &mut [u8], page: PageID, at: usize, bytes: &[u8])
+pub(crate) fn store(flash: &mut [u8], page: PageID, at: usize, bytes: &[u8])
     ensures bytes { λ _. ⌜ now (flash .exit) ≡ made (pageStart (page .0)) (Op.store at (now (bytes .entry))) (now (flash .entry)) ⌝ }
 {
-    let n = least(bytes.len(), less(PAGE_SIZE, at));
-    let from = least(page_start(page) + least(at, PAGE_SIZE), flash.len());
+    let room = less(PAGE_SIZE, at);
+    let n = least(bytes.len(), room);
+    let from = least(page_start(page) + PAGE_SIZE - room, flash.len());
     part::put(&mut flash[from..], &bytes[..n]);
 }
 
 // One erase of the page.
-pub fn erase(flash: &mut [u8], page: PageID, value: u8)
+pub(crate) fn erase(flash: &mut [u8], page: PageID, value: u8)
     ensures bytes { λ _. ⌜ now (flash .exit) ≡ made (pageStart (page .0)) (Op.erase value) (now (flash .entry)) ⌝ }
 {
     let start = least(page_start(page), flash.len());

@@ -1,4 +1,4 @@
-// Replays a script of sums. A line is `crc` and bytes in hex, or `-` for none; its answer is `ok` and the sum.
+// Replays a script of sums. A line is `crc` and bytes in hex, with `-` or nothing for none; its answer is `ok` and the sum.
 use check::same;
 use crc::crc32;
 use flash::part::part_of;

@@ -10,6 +10,6 @@ unfoldable pub before : ℕ → List ℕ → ℕ
 before byte [] = 0
 before byte (b ∷ text) = cond (eqb b byte) 0 (suc (before byte text))
 
--- the index of the first such byte at or after an index, or the text's end
+-- the index of the first such byte at or after an index; where there is none, the text's end, or the index if that is past it
 abbrev pub endFrom : List ℕ → ℕ → ℕ → ℕ
 endFrom text from byte = from + before byte (drop from text)

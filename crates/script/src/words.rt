@@ -2,7 +2,7 @@
 ghost use mathlib.Core.Path.{_≡_};
 ghost use Rattle.script.specs.Words.{endFrom};
 
-// The index of the first such byte at or after an index, or the text's end where there is none.
+// The index of the first such byte at or after an index. Where there is none: the text's end, or the index if that is past it.
 pub fn end_from(text: &[u8], from: usize, byte: u8) -> usize
     ensures answers { λ r. ⌜ r ≡ endFrom (now (text .entry)) from byte ⌝ }
 {

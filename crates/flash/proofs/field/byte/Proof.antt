@@ -1,10 +1,9 @@
 -- `flash::field::byte` meets its contract. Assumes nothing.
-use Prim.Native.Nat.{_+_, _≤_}
-use mathlib.Core.Path.{_≡_, sym}
+use mathlib.Core.Path.{sym}
 use native.Mathlib.Omega.{arith}
 use borrow.Author.Needs.{needs}
-use lib.ListN.{length, drop, length-drop, List·getD-eq-default}
 use lib.Seq.{getD-drop}
+use Rattle.flash.proofs.FieldLaws.{past-end}
 use Rattle.flash.proofs.field.byte.Statement.{statement}
 use Rattle.flash.proofs.field.byte.Tie as tie
 
@@ -18,21 +17,13 @@ shared-slice-read-result : tie.Need-shared-slice-read-result
 shared-slice-read-result c = search needs
 
 returns : tie.Need-returns
-returns c =
-    let a = c .before .before .before .args in
-    sym (getD-drop (a .at) (a .bytes .now) (a .k) 0)
+returns c = let a = c .before .before .before .args in sym (getD-drop (a .at) (a .bytes .now) (a .k) 0)
 
 returns-2 : tie.Need-returns-2
-returns-2 c =
-    let a = c .before .before .args in
-    let short : length (drop (a .at) (a .bytes .now)) ≤ a .k = simp length-drop (omega arith) in
-    sym (List·getD-eq-default (drop (a .at) (a .bytes .now)) 0 short)
+returns-2 c = let a = c .before .before .args in past-end (a .at) (a .k) (a .bytes .now) (omega arith)
 
 returns-3 : tie.Need-returns-3
-returns-3 c =
-    let a = c .before .args in
-    let short : length (drop (a .at) (a .bytes .now)) ≤ a .k = simp length-drop (omega arith) in
-    sym (List·getD-eq-default (drop (a .at) (a .bytes .now)) 0 short)
+returns-3 c = let a = c .before .args in past-end (a .at) (a .k) (a .bytes .now) (omega arith)
 
 pub byte-spec : {M : Type 1} → statement M
 byte-spec =

@@ -17,14 +17,14 @@ least-requires c κs = search needs
 page-start-requires : tie.Need-page-start-requires
 page-start-requires c κs = search needs
 
-least-requires-2 : tie.Need-least-requires-2
-least-requires-2 c κs = search needs
-
 add-least : tie.Need-add-least
 add-least c = search needs
 
-least-requires-3 : tie.Need-least-requires-3
-least-requires-3 c κs = search needs
+sub-least : tie.Need-sub-least
+sub-least c = search needs
+
+least-requires-2 : tie.Need-least-requires-2
+least-requires-2 c κs = search needs
 
 sub-put : tie.Need-sub-put
 sub-put c = search needs
@@ -46,9 +46,9 @@ same-length c = search needs
 
 returns : tie.Need-returns
 returns c =
-    let a = c .before .before .before .before .before .before .before .before .before .before .before .before .args in
-    store-lent (pageStart (a .page .0)) (a .at) (c .before .before .before .before .before .before .before .before .least .result) (c .before .before .before .before .before .before .least2 .result) (c .before .before .before .before .before .least3 .result) (a .bytes .now) (a .flash .now) (c .before .before .put .last .0)
-    (c .before .before .before .before .before .before .before .before .least .ensures ∙ rw (c .before .before .before .before .before .before .before .before .before .less .ensures)) (c .before .before .before .before .before .before .least2 .ensures) (c .before .before .before .before .before .least3 .ensures ∙ rw (c .before .before .before .before .before .before .before .page-start .ensures)) (c .before .before .put .ensures)
+    let a = c .before .before .before .before .before .before .before .before .before .before .before .args in
+    store-lent (pageStart (a .page .0)) (a .at) (c .before .before .before .before .before .before .before .before .less .result) (c .before .before .before .before .before .before .before .least .result) (c .before .before .before .before .before .least2 .result) (a .bytes .now) (a .flash .now) (c .before .before .put .last .0)
+    (c .before .before .before .before .before .before .before .before .less .ensures) (c .before .before .before .before .before .before .before .least .ensures) (c .before .before .before .before .before .least2 .ensures ∙ rw (c .before .before .before .before .before .before .page-start .ensures)) (c .before .before .put .ensures)
 
 pub store-spec : {M : Type 1} → statement M
 store-spec =
@@ -57,9 +57,9 @@ store-spec =
     less-requires
     least-requires
     page-start-requires
-    least-requires-2
     add-least
-    least-requires-3
+    sub-least
+    least-requires-2
     sub-put
     part-put-start
     part-put-end

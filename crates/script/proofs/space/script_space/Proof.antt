@@ -1,11 +1,11 @@
 -- `script::space::script_space` meets its contract. Assumes nothing.
 use mathlib.Core.Path.{refl}
-use Rattle.script.specs.Space.{zeros}
+use Rattle.flash.specs.Patch.{blank}
 use Rattle.script.proofs.space.script_space.Statement.{statement}
 use Rattle.script.proofs.space.script_space.Tie as tie
 
 returns : tie.Need-returns
-unfolding zeros
+unfolding blank
 returns c = (refl, refl)
 
 pub script-space-spec : {M : Type 1} → statement M
