@@ -1,0 +1,36 @@
+-- `alloc::allocator::Allocator::free_pages` meets its contract. Assumes nothing.
+use mathlib.Core.Path.{_≡_, sym, _∙_}
+use Rattle.alloc.specs.Calls.{freePages}
+use Rattle.alloc.specs.State.{stateCheck}
+use Rattle.alloc.specs.declared.check.Check.the-variants.{Fine}
+use Rattle.alloc.proofs.StateLaws.{fine-state, used-le}
+use borrow.Author.Needs.{needs}
+use Rattle.alloc.proofs.allocator.Allocator.free_pages.Statement.{statement}
+use Rattle.alloc.proofs.allocator.Allocator.free_pages.Tie as tie
+
+state-check-requires : tie.Need-state-check-requires
+state-check-requires c κs = search needs
+
+enum-told : tie.Need-enum-told
+enum-told c = search needs
+
+fine : (c : tie.After-struct-known) → stateCheck (c .before .before .before .before .args .self) ≡ Fine
+fine c = sym (c .before .before .before .state-check .ensures) ∙ c .before .enum-told .given .1
+
+sub-t5 : tie.Need-sub-t5
+sub-t5 c = used-le (c .before .before .before .before .args .self) (fine-state (c .before .before .before .before .args .self) (fine c))
+
+enum-known-no : tie.Need-enum-known-no
+enum-known-no c = search needs
+
+returns : tie.Need-returns
+unfolding freePages
+returns c = rw (fine c)
+
+returns-2 : tie.Need-returns-2
+unfolding freePages
+returns-2 c = rw (sym (c .before .before .before .state-check .ensures) ∙ c .before .no .given .1)
+
+pub free-pages-spec : {M : Type 1} → statement M
+free-pages-spec =
+    tie.close (tie.spec state-check-requires enum-told sub-t5 enum-known-no returns returns-2)

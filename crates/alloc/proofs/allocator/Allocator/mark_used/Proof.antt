@@ -1,0 +1,87 @@
+-- `alloc::allocator::Allocator::mark_used` meets its contract. Assumes nothing.
+use mathlib.Core.Path.{_≡_, sym, _∙_}
+use mathlib.Core.Bool.{false}
+use Prim.Native.Nat.{_<_}
+use native.Mathlib.Omega.{arith}
+use borrow.Author.Needs.{needs}
+use Rattle.types.specs.Build.{maxPageCount}
+use Rattle.types.specs.declared.page_id.PageID.{PageID}
+use Rattle.alloc.specs.Calls.{markUsed}
+use Rattle.alloc.specs.Marks.{isMarked}
+use Rattle.alloc.specs.State.{pageCheck}
+use Rattle.alloc.specs.declared.allocator.Allocator.{Allocator}
+use Rattle.alloc.specs.declared.check.Check.the-variants.{Fine}
+use Rattle.alloc.proofs.StateLaws.{InRange, fine-page, page-below, used-le}
+use Rattle.alloc.proofs.allocator.Allocator.mark_used.Statement.{statement}
+use Rattle.alloc.proofs.allocator.Allocator.mark_used.Tie as tie
+
+page-check-requires : tie.Need-page-check-requires
+page-check-requires c κs = search needs
+
+enum-known-no : tie.Need-enum-known-no
+enum-known-no c = search needs
+
+returns : tie.Need-returns
+unfolding markUsed
+returns c = rw (sym (c .before .before .before .page-check .ensures) ∙ c .before .no .given .1)
+
+enum-told : tie.Need-enum-told
+enum-told c = search needs
+
+-- the check has passed
+abbrev self : tie.After-enum-told → Allocator
+self c = c .before .before .before .args .self
+
+abbrev page : tie.After-enum-told → PageID
+page c = c .before .before .before .args .page
+
+fine : (c : tie.After-enum-told) → pageCheck (self c) (page c) ≡ Fine
+fine c = sym (c .before .before .page-check .ensures) ∙ c .enum-told .given .1
+
+index-requires : tie.Need-index-requires
+index-requires c κs = search needs
+
+below : (c : tie.After-index) → c .index .result < maxPageCount
+below c = page-below (self (c .before)) (page (c .before)) (c .index .result) (fine (c .before)) (c .index .ensures)
+
+is-marked-requires : tie.Need-is-marked-requires
+is-marked-requires c κs = below (c .before)
+
+returns-2 : tie.Need-returns-2
+unfolding markUsed
+returns-2 c =
+    let b = c .before .before .before in
+    rw (fine (b .before), ← b .index .ensures, sym (c .before .is-marked .ensures) ∙ c .if1 .taken)
+
+free-here : (c : tie.Else1) → isMarked (self (c .before .before .before .before) .pages) (c .before .before .before .index .result) ≡ false
+free-here c = sym (c .before .is-marked .ensures) ∙ c .if1 .left
+
+mark-requires : tie.Need-mark-requires
+mark-requires c κs = (below (c .before .before .before), free-here c)
+
+add-t13 : tie.Need-add-t13
+add-t13 c =
+    let b = c .before .before .before .before .before .before in
+    let r : InRange (self b) = fine-page (self b) (page b) (fine b) .0 in
+    omega (arith, used-le (self b) r, r .few)
+
+returns-3 : tie.Need-returns-3
+unfolding markUsed
+returns-3 c =
+    let b = c .before .before .before .before .before in
+    rw (fine (b .before), ← b .index .ensures, free-here (c .before .before), c .before .mark .ensures)
+
+pub mark-used-spec : {M : Type 1} → statement M
+mark-used-spec =
+    tie.close
+    (tie.spec
+    page-check-requires
+    enum-known-no
+    returns
+    enum-told
+    index-requires
+    is-marked-requires
+    returns-2
+    mark-requires
+    add-t13
+    returns-3)

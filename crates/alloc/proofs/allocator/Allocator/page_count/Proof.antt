@@ -1,0 +1,27 @@
+-- `alloc::allocator::Allocator::page_count` meets its contract. Assumes nothing.
+use mathlib.Core.Path.{sym, _∙_}
+use Rattle.alloc.specs.Calls.{pageCount}
+use borrow.Author.Needs.{needs}
+use Rattle.alloc.proofs.allocator.Allocator.page_count.Statement.{statement}
+use Rattle.alloc.proofs.allocator.Allocator.page_count.Tie as tie
+
+state-check-requires : tie.Need-state-check-requires
+state-check-requires c κs = search needs
+
+enum-told : tie.Need-enum-told
+enum-told c = search needs
+
+enum-known-no : tie.Need-enum-known-no
+enum-known-no c = search needs
+
+returns : tie.Need-returns
+unfolding pageCount
+returns c = rw (sym (c .before .before .state-check .ensures) ∙ c .enum-told .given .1)
+
+returns-2 : tie.Need-returns-2
+unfolding pageCount
+returns-2 c = rw (sym (c .before .before .before .state-check .ensures) ∙ c .before .no .given .1)
+
+pub page-count-spec : {M : Type 1} → statement M
+page-count-spec =
+    tie.close (tie.spec state-check-requires enum-told enum-known-no returns returns-2)

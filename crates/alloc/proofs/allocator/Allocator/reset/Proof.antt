@@ -1,0 +1,37 @@
+-- `alloc::allocator::Allocator::reset` meets its contract. Assumes nothing.
+use mathlib.Core.Path.{_≡_, sym, _∙_}
+use native.Mathlib.Omega.{arith}
+use Rattle.alloc.specs.Calls.{reset}
+use Rattle.alloc.specs.State.{countCheck}
+use Rattle.alloc.specs.declared.check.Check.the-variants.{Fine}
+use Rattle.alloc.proofs.StateLaws.{fine-count}
+use borrow.Author.Needs.{needs}
+use Rattle.alloc.proofs.allocator.Allocator.reset.Statement.{statement}
+use Rattle.alloc.proofs.allocator.Allocator.reset.Tie as tie
+
+count-check-requires : tie.Need-count-check-requires
+count-check-requires c κs = search needs
+
+enum-known-no : tie.Need-enum-known-no
+enum-known-no c = search needs
+
+returns : tie.Need-returns
+unfolding reset
+returns c = rw (sym (c .before .before .before .count-check .ensures) ∙ c .before .no .given .1)
+
+enum-told : tie.Need-enum-told
+enum-told c = search needs
+
+fine : (c : tie.After-enum-told) → countCheck (c .before .before .before .args .count) ≡ Fine
+fine c = sym (c .before .before .count-check .ensures) ∙ c .enum-told .given .1
+
+rem-t10 : tie.Need-rem-t10
+rem-t10 c = omega (arith, fine-count (c .before .before .before .args .count) (fine c))
+
+returns-2 : tie.Need-returns-2
+unfolding reset
+returns-2 c = rw (fine c)
+
+pub reset-spec : {M : Type 1} → statement M
+reset-spec =
+    tie.close (tie.spec count-check-requires enum-known-no returns enum-told rem-t10 returns-2)

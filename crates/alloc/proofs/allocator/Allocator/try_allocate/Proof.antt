@@ -1,0 +1,102 @@
+-- `alloc::allocator::Allocator::try_allocate` meets its contract. Assumes nothing.
+use mathlib.Core.Path.{_≡_, sym, _∙_}
+use mathlib.Core.Bool.{false}
+use Prim.Native.Nat.{_<_}
+use native.Mathlib.Omega.{arith}
+use borrow.Author.Needs.{needs}
+use Rattle.types.specs.declared.page_id.MaybePageID.the-variants.{Some}
+use Rattle.alloc.specs.Calls.{found, tryAllocate}
+use Rattle.alloc.specs.Marks.{isMarked}
+use Rattle.alloc.specs.State.{stateCheck}
+use Rattle.alloc.specs.declared.allocator.Allocator.{Allocator}
+use Rattle.alloc.specs.declared.check.Check.the-variants.{Fine}
+use Rattle.alloc.proofs.HandedLaws.{found-free}
+use Rattle.alloc.proofs.StateLaws.{InRange, fine-state, used-le, next-le}
+use Rattle.alloc.proofs.allocator.Allocator.try_allocate.Statement.{statement}
+use Rattle.alloc.proofs.allocator.Allocator.try_allocate.Tie as tie
+
+state-check-requires : tie.Need-state-check-requires
+state-check-requires c κs = search needs
+
+enum-known-no : tie.Need-enum-known-no
+enum-known-no c = search needs
+
+returns : tie.Need-returns
+unfolding tryAllocate
+returns c = rw (sym (c .before .before .before .state-check .ensures) ∙ c .before .no .given .1)
+
+enum-told : tie.Need-enum-told
+enum-told c = search needs
+
+-- the check has passed
+abbrev self : tie.After-enum-told → Allocator
+self c = c .before .before .before .args .self
+
+fine : (c : tie.After-enum-told) → stateCheck (self c) ≡ Fine
+fine c = sym (c .before .before .state-check .ensures) ∙ c .enum-told .given .1
+
+known : (c : tie.After-enum-told) → InRange (self c)
+known c = fine-state (self c) (fine c)
+
+first-free-requires : tie.Need-first-free-requires
+first-free-requires c κs = omega (arith, next-le (self (c .before)) (known (c .before)), known (c .before) .few)
+
+enum-known-page : tie.Need-enum-known-page
+enum-known-page c = search needs
+
+enum-told-2 : tie.Need-enum-told-2
+enum-told-2 c = search needs
+
+returns-2 : tie.Need-returns-2
+unfolding tryAllocate
+returns-2 c = rw (fine (c .before .before .before .before), sym (c .before .before .first-free .ensures) ∙ c .enum-told2 .given .1)
+
+index-requires : tie.Need-index-requires
+index-requires c κs = search needs
+
+-- a page is found
+abbrev checked : tie.After-index → tie.After-enum-told
+checked c = c .before .before .before .before .before .before
+
+page-found : (c : tie.After-index) → found (self (checked c)) ≡ Some (c .before .before .page .given .0 .0)
+page-found c = sym (c .before .before .before .before .first-free .ensures) ∙ c .before .before .page .given .1
+
+free-here : (c : tie.After-index)
+    → (c .index .result < self (checked c) .«page_count») × (isMarked (self (checked c) .pages) (c .index .result) ≡ false)
+free-here c =
+    found-free (self (checked c)) (c .before .before .page .given .0 .0) (c .index .result) (known (checked c)) (page-found c) (c .index .ensures)
+
+mark-requires : tie.Need-mark-requires
+mark-requires c κs = (omega (arith, free-here c .0, known (checked c) .few), free-here c .1)
+
+add-t13 : tie.Need-add-t13
+add-t13 c =
+    let b = checked (c .before .before) in
+    omega (arith, used-le (self b) (known b), known b .few)
+
+past-requires : tie.Need-past-requires
+past-requires c κs = free-here (c .before .before) .0
+
+returns-3 : tie.Need-returns-3
+unfolding tryAllocate
+returns-3 c =
+    let b = c .before .before .before in
+    rw (fine (checked b), page-found b, c .past .ensures, c .before .before .mark .ensures, b .index .ensures)
+
+pub try-allocate-spec : {M : Type 1} → statement M
+try-allocate-spec =
+    tie.close
+    (tie.spec
+    state-check-requires
+    enum-known-no
+    returns
+    enum-told
+    first-free-requires
+    enum-known-page
+    enum-told-2
+    returns-2
+    index-requires
+    mark-requires
+    add-t13
+    past-requires
+    returns-3)

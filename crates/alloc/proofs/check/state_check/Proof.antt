@@ -1,0 +1,20 @@
+-- `alloc::check::state_check` meets its contract. Assumes nothing.
+use mathlib.Core.Path.{sym, _∙_}
+use Rattle.alloc.specs.State.{stateCheck}
+use borrow.Author.Needs.{needs}
+use Rattle.alloc.proofs.check.state_check.Statement.{statement}
+use Rattle.alloc.proofs.check.state_check.Tie as tie
+
+in-range-requires : tie.Need-in-range-requires
+in-range-requires c κs = search needs
+
+returns : tie.Need-returns
+unfolding stateCheck
+returns c = rw (sym (c .before .in-range .ensures) ∙ c .if1 .taken)
+
+returns-2 : tie.Need-returns-2
+unfolding stateCheck
+returns-2 c = rw (sym (c .before .in-range .ensures) ∙ c .if1 .left)
+
+pub state-check-spec : {M : Type 1} → statement M
+state-check-spec = tie.close (tie.spec in-range-requires returns returns-2)

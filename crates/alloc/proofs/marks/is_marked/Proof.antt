@@ -1,0 +1,21 @@
+-- `alloc::marks::is_marked` meets its contract. Assumes nothing.
+use mathlib.Core.Path.{sym}
+use Rattle.alloc.proofs.MarksLaws.{mark-is}
+use borrow.Author.Needs.{needs}
+use Rattle.alloc.proofs.marks.is_marked.Statement.{statement}
+use Rattle.alloc.proofs.marks.is_marked.Tie as tie
+
+array-read-result : tie.Need-array-read-result
+array-read-result c = search needs
+
+cast-result : tie.Need-cast-result
+cast-result c = search needs
+
+shr-result : tie.Need-shr-result
+shr-result c = search needs
+
+returns : tie.Need-returns
+returns c = sym (mark-is (c .args .t1) (c .args .page))
+
+pub is-marked-spec : {M : Type 1} → statement M
+is-marked-spec = tie.close (tie.spec array-read-result cast-result shr-result returns)

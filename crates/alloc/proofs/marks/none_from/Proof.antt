@@ -1,0 +1,54 @@
+-- `alloc::marks::none_from` meets its contract. Assumes nothing.
+use mathlib.Core.Path.{_≡_, sym}
+use Prim.Native.Nat.{_/_}
+use native.Mathlib.Omega.{arith}
+use lib.ListN.{length, getD}
+use borrow.Author.Tests.{eq-eqb}
+use mir.Syntax.{w8}
+use mir.Val.{Fits}
+use Rattle.alloc.proofs.CountLaws.{drop-marksOf-end, none-from}
+use borrow.Author.Needs.{needs}
+use Rattle.alloc.proofs.marks.none_from.Statement.{statement}
+use Rattle.alloc.proofs.marks.none_from.Tie as tie
+
+long : (c : tie.Then1) → length (c .before .args .t1) ≡ 32
+long c = search needs
+
+returns : tie.Need-returns
+returns c = sym (eq-eqb _ 0 (drop-marksOf-end (c .before .args .t1) (c .before .args .page) (omega (arith, long c))))
+
+array-read-result : tie.Need-array-read-result
+array-read-result c = search needs
+
+cast-result : tie.Need-cast-result
+cast-result c = search needs
+
+shr-result : tie.Need-shr-result
+shr-result c = search needs
+
+add-count-from : tie.Need-add-count-from
+add-count-from c = search needs
+
+count-from-requires : tie.Need-count-from-requires
+count-from-requires c κs = search needs
+
+byte : (c : tie.After-count-from) → Fits w8 (getD (c .before .before .args .t1) (c .before .before .args .page / 8) 0)
+byte c = search needs
+
+returns-2 : tie.Need-returns-2
+returns-2 c =
+    let bs = c .before .before .args .t1 in
+    let p = c .before .before .args .page in
+    rw (c .count-from .ensures) (sym (none-from bs p (search needs) (byte c .fits)))
+
+pub none-from-spec : {M : Type 1} → statement M
+none-from-spec =
+    tie.close
+    (tie.spec
+    returns
+    array-read-result
+    cast-result
+    shr-result
+    add-count-from
+    count-from-requires
+    returns-2)

@@ -1,0 +1,5 @@
+pub mod Answers
+pub mod Calls
+pub mod Marks
+pub mod Search
+pub mod State

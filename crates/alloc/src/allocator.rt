@@ -1,0 +1,197 @@
+// The allocator (alloc.rs), by value. Pages are handed out in turn, which spreads the wear.
+ghost use mathlib.Core.Path.{_≡_};
+ghost use Rattle.alloc.specs.Calls.{allFree, reset, markUsed, free, tryAllocate, isUsed, usedPages, freePages, pageCount, marginOf};
+use super::answers::Allocated;
+use super::answers::Allocation;
+use super::answers::Change;
+use super::answers::Count;
+use super::answers::Margin;
+use super::answers::Outcome;
+use super::answers::Usage;
+use super::check;
+use super::check::Check;
+use super::marks;
+use super::marks::MARK_BYTES;
+use types::page_id::MaybePageID;
+use types::page_id::PageID;
+use types::refusal::Refusal;
+
+pub struct Allocator {
+    pub page_count: usize,
+    // A bit for each page that is used.
+    pub pages: [u8; MARK_BYTES],
+    pub used: usize,
+    // Where the next search starts.
+    pub next_page_id: usize,
+}
+
+impl Allocator {
+    // Without pages, until it is reset.
+    pub fn new() -> Allocator
+        ensures answers { λ r. ⌜ r ≡ allFree 0 0 ⌝ }
+    {
+        Allocator {
+            page_count: 0,
+            pages: [0u8; MARK_BYTES],
+            used: 0,
+            next_page_id: 0,
+        }
+    }
+
+    pub fn reset(self, count: usize, seed: u32) -> Change
+        ensures answers { λ r. ⌜ r ≡ reset self count seed ⌝ }
+    {
+        if let Check::Refused(no) = check::count_check(count) {
+            return Change {
+                answer: Outcome::Refused(no),
+                allocator: self,
+            };
+        }
+        Change {
+            answer: Outcome::Done,
+            allocator: Allocator {
+                page_count: count,
+                pages: [0u8; MARK_BYTES],
+                used: 0,
+                next_page_id: seed as usize % count,
+            },
+        }
+    }
+
+    // The first free page from the next one on, round.
+    pub fn try_allocate(self) -> Allocation
+        ensures answers { λ r. ⌜ r ≡ tryAllocate self ⌝ }
+    {
+        if let Check::Refused(no) = check::state_check(self) {
+            return Allocation {
+                answer: Allocated::Refused(no),
+                allocator: self,
+            };
+        }
+        let count = self.page_count;
+        let pages = self.pages;
+        let MaybePageID::Some(page) = marks::first_free(pages, self.next_page_id, count) else {
+            return Allocation {
+                answer: Allocated::None,
+                allocator: self,
+            };
+        };
+        let p = page.index();
+        Allocation {
+            answer: Allocated::Page(page),
+            allocator: Allocator {
+                page_count: count,
+                pages: marks::mark(pages, p),
+                used: self.used + 1,
+                next_page_id: marks::past(p, count),
+            },
+        }
+    }
+
+    pub fn mark_used(self, page: PageID) -> Change
+        ensures answers { λ r. ⌜ r ≡ markUsed self page ⌝ }
+    {
+        if let Check::Refused(no) = check::page_check(self, page) {
+            return Change {
+                answer: Outcome::Refused(no),
+                allocator: self,
+            };
+        }
+        let p = page.index();
+        let pages = self.pages;
+        if marks::is_marked(pages, p) {
+            return Change {
+                answer: Outcome::Refused(Refusal::Corrupted),
+                allocator: self,
+            };
+        }
+        Change {
+            answer: Outcome::Done,
+            allocator: Allocator {
+                page_count: self.page_count,
+                pages: marks::mark(pages, p),
+                used: self.used + 1,
+                next_page_id: self.next_page_id,
+            },
+        }
+    }
+
+    pub fn free(self, page: PageID) -> Change
+        ensures answers { λ r. ⌜ r ≡ free self page ⌝ }
+    {
+        if let Check::Refused(no) = check::page_check(self, page) {
+            return Change {
+                answer: Outcome::Refused(no),
+                allocator: self,
+            };
+        }
+        let p = page.index();
+        let pages = self.pages;
+        if !marks::is_marked(pages, p) {
+            return Change {
+                answer: Outcome::Refused(Refusal::Corrupted),
+                allocator: self,
+            };
+        }
+        Change {
+            answer: Outcome::Done,
+            allocator: Allocator {
+                page_count: self.page_count,
+                pages: marks::unmark(pages, p),
+                used: self.used - 1,
+                next_page_id: self.next_page_id,
+            },
+        }
+    }
+
+    pub fn is_used(self, page: PageID) -> Usage
+        ensures answers { λ r. ⌜ r ≡ isUsed self page ⌝ }
+    {
+        if let Check::Refused(no) = check::page_check(self, page) {
+            return Usage::Refused(no);
+        }
+        let pages = self.pages;
+        if marks::is_marked(pages, page.index()) {
+            Usage::Used
+        } else {
+            Usage::Free
+        }
+    }
+
+    pub fn used_pages(self) -> Count
+        ensures answers { λ r. ⌜ r ≡ usedPages self ⌝ }
+    {
+        match check::state_check(self) {
+            Check::Fine => Count::Pages(self.used),
+            Check::Refused(no) => Count::Refused(no),
+        }
+    }
+
+    pub fn free_pages(self) -> Count
+        ensures answers { λ r. ⌜ r ≡ freePages self ⌝ }
+    {
+        match check::state_check(self) {
+            Check::Fine => Count::Pages(self.page_count - self.used),
+            Check::Refused(no) => Count::Refused(no),
+        }
+    }
+
+    pub fn page_count(self) -> Count
+        ensures answers { λ r. ⌜ r ≡ pageCount self ⌝ }
+    {
+        match check::state_check(self) {
+            Check::Fine => Count::Pages(self.page_count),
+            Check::Refused(no) => Count::Refused(no),
+        }
+    }
+
+    // Free pages minus wanted ones.
+    pub fn margin(self, wanted: usize) -> Margin
+        ensures answers { λ r. ⌜ r ≡ marginOf self wanted ⌝ }
+    {
+        match check::wanted_check(self, wanted) {
+            Check::Fine => Margin::Pages((self.page_count - self.used) as isize - wanted as isize),
+            Check::Refused(no) => Margin::Refused(no),
+        }
+    }
+}

@@ -1,0 +1,5 @@
+// The page allocator (alloc.rs; document 01, part 3): which pages are used, and which one is looked at next.
+pub mod allocator;
+pub mod answers;
+mod check;
+mod marks;

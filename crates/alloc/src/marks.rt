@@ -1,0 +1,109 @@
+// The marks: a bit for each page, eight to a byte, the first in the lowest bit (alloc.rs, get_bit and set_bit); and the search over them.
+ghost use mathlib.Core.Path.{_≡_};
+ghost use mathlib.Core.Bool.{true, false};
+ghost use Prim.Native.Nat.{_+_, _-_, _%_, _≤_, _<_};
+ghost use lib.Dec.{eqb};
+ghost use lib.ListN.{drop};
+ghost use Rattle.types.specs.Build.{maxPageCount};
+ghost use Rattle.alloc.specs.Marks.{marksOf, isMarked, countOf, marking, freeing};
+ghost use Rattle.alloc.specs.Search.{upFrom, roundFrom, firstFree};
+use types::config::MAX_PAGE_COUNT;
+use types::page_id::MaybePageID;
+use types::page_id::PageID;
+
+pub(crate) const MARK_BYTES: usize = (MAX_PAGE_COUNT + 7) / 8;
+
+pub(crate) fn is_marked(pages: [u8; MARK_BYTES], page: usize) -> bool
+    requires { ⌜ page < maxPageCount ⌝ }
+    ensures answers { λ r. ⌜ r ≡ isMarked pages page ⌝ }
+{
+    (pages[page / 8] >> (page % 8)) % 2 == 1
+}
+
+// How many marks there are in the bytes from one on.
+pub(crate) fn count_from(pages: [u8; MARK_BYTES], at: usize) -> usize
+    ensures answers { λ r. ⌜ r ≡ countOf (marksOf (drop at pages)) ⌝ }
+{
+    // A sum of 16 bits, so that eight bytes are counted at a time.
+    let mut n: u16 = 0;
+    let mut i = at;
+    while i < MARK_BYTES {
+        n += u8::count_ones(pages[i]) as u16;
+        i += 1;
+    }
+    n as usize
+}
+
+// Whether no page from one on is marked.
+pub(crate) fn none_from(pages: [u8; MARK_BYTES], page: usize) -> bool
+    ensures answers { λ r. ⌜ r ≡ eqb (countOf (drop page (marksOf pages))) 0 ⌝ }
+{
+    let at = page / 8;
+    if MARK_BYTES <= at {
+        return true;
+    }
+    (pages[at] >> (page % 8) == 0) & (count_from(pages, at + 1) == 0)
+}
+
+// The first free page from one up to another.
+fn free_between(pages: [u8; MARK_BYTES], from: usize, to: usize) -> MaybePageID
+    requires { ⌜ to ≤ maxPageCount ⌝ }
+    ensures answers { λ r. ⌜ r ≡ firstFree (marksOf pages) (upFrom from (to - from)) ⌝ }
+{
+    let mut i = from;
+    while i < to {
+        let byte = pages[i / 8];
+        if byte == 255 {
+            // Every page of this byte is used.
+            i = (i / 8 + 1) * 8;
+        } else if (byte >> (i % 8)) % 2 == 0 {
+            return MaybePageID::Some(PageID(i as u16));
+        } else {
+            i += 1;
+        }
+    }
+    MaybePageID::None
+}
+
+// The first free page from the next one on, round.
+pub(crate) fn first_free(pages: [u8; MARK_BYTES], next: usize, count: usize) -> MaybePageID
+    requires { ⌜ next ≤ maxPageCount ⌝ }
+    requires { ⌜ count ≤ maxPageCount ⌝ }
+    ensures answers { λ r. ⌜ r ≡ firstFree (marksOf pages) (roundFrom next count) ⌝ }
+{
+    match free_between(pages, next, count) {
+        MaybePageID::Some(page) => MaybePageID::Some(page),
+        MaybePageID::None => free_between(pages, 0, next),
+    }
+}
+
+// The page after one, round.
+pub(crate) fn past(page: usize, count: usize) -> usize
+    requires { ⌜ page < count ⌝ }
+    ensures answers { λ r. ⌜ r ≡ (page + 1) % count ⌝ }
+{
+    let next = page + 1;
+    if next == count { 0 } else { next }
+}
+
+pub(crate) fn mark(pages: [u8; MARK_BYTES], page: usize) -> [u8; MARK_BYTES]
+    requires { ⌜ page < maxPageCount ⌝ }
+    requires { ⌜ isMarked pages page ≡ false ⌝ }
+    ensures answers { λ r. ⌜ r ≡ marking pages page ⌝ }
+{
+    let mut bytes = pages;
+    let at = page / 8;
+    bytes[at] = bytes[at] + (1 << (page % 8));
+    bytes
+}
+
+pub(crate) fn unmark(pages: [u8; MARK_BYTES], page: usize) -> [u8; MARK_BYTES]
+    requires { ⌜ page < maxPageCount ⌝ }
+    requires { ⌜ isMarked pages page ≡ true ⌝ }
+    ensures answers { λ r. ⌜ r ≡ freeing pages page ⌝ }
+{
+    let mut bytes = pages;
+    let at = page / 8;
+    bytes[at] = bytes[at] - (1 << (page % 8));
+    bytes
+}
