@@ -1,0 +1,58 @@
+-- The operations that finish a chunk, run one after the other. Assumes nothing.
+use mathlib.Core.Path.{_≡_, refl}
+use mathlib.Core.Bool.{Bool, true, false, cond, not, _&&_}
+use mathlib.Core.List.{List, [], _++_}
+use Prim.Native.Nat.{ℕ}
+use lib.Dec.{eqb}
+use lib.ListN.{take-append-drop}
+use borrow.Author.Tests.{eq-eqb, ne-eqb}
+use Rattle.types.specs.declared.refusal.Verdict.{Verdict}
+use Rattle.types.specs.declared.refusal.Verdict.the-variants.{Fine}
+use Rattle.crc.specs.Register.{finished}
+use Rattle.flash.specs.Geometry.{pageStart}
+use Rattle.flash.specs.Operations.{erase, store, opIf}
+use Rattle.flash.specs.declared.ops.Spent.{Spent}
+use Rattle.flash.proofs.OperationLaws.{Ran, ran-append}
+use Rattle.page.specs.Chunks.{chunkHeader}
+use Rattle.writer.specs.Commits.{inGroup, groupAt, lastGroup, sealOp, chunkOps, nextChunk, commitOps, committed}
+use Rattle.writer.specs.Outcomes.{came}
+use Rattle.writer.specs.declared.answers.Ended.{Ended}
+use Rattle.writer.specs.declared.answers.Outcome.the-variants as outcome
+use Rattle.writer.specs.declared.page_writer.PageWriter.{PageWriter}
+use Rattle.writer.proofs.OutcomeLaws.{Ends, ends-ran, ends-none}
+
+-- the padding is what the buffer holds
+pub last-group : (w : PageWriter) → lastGroup w ≡ w .buf
+last-group w = take-append-drop (inGroup w) (w .buf)
+
+-- each operation by itself, if all of them are due
+chunk-due : (e : ℕ) (due : Bool) (w : PageWriter)
+    → opIf (due && w .armed) (erase e) ++ opIf (due && not (eqb (inGroup w) 0)) (store (groupAt w) (lastGroup w)) ++ opIf due (sealOp w) ≡ cond due (chunkOps e w) []
+unfolding chunkOps
+chunk-due e true w = refl
+chunk-due e false w = refl
+
+pub chunk-ran : (e left : ℕ) (due : Bool) (w : PageWriter) (head v₀ v₁ v₂ v₃ : List ℕ) (x y z : Spent)
+    → head ≡ chunkHeader (w .pending) (finished (w .crc))
+    → Ran (pageStart (w .page .0)) left (opIf (due && w .armed) (erase e)) v₀ x v₁
+    → Ran (pageStart (w .page .0)) (x .left) (opIf (due && not (eqb (inGroup w) 0)) (store (groupAt w) (w .buf))) v₁ y v₂
+    → Ran (pageStart (w .page .0)) (y .left) (opIf due (store (w .offset) head)) v₂ z v₃
+    → Ran (pageStart (w .page .0)) left (cond due (chunkOps e w) []) v₀ (record { ok = x .ok && y .ok && z .ok; left = z .left }) v₃
+chunk-ran e left due w head v₀ v₁ v₂ v₃ x y z h p q r =
+    let base = pageStart (w .page .0) in
+    let second = rw (← (last-group w)) at q in
+    let third = rw h at r in
+    rw (← (chunk-due e due w))
+    (ran-append base left _ _ v₀ v₂ v₃ (record { ok = x .ok && y .ok; left = y .left }) z (ran-append base left _ _ v₀ v₁ v₂ x y p second) third)
+
+-- ---- commit
+
+module _ (v : Verdict) (e : ℕ) (w : PageWriter) (left : ℕ) (xs : List ℕ) (fine : v ≡ Fine) where
+  pub commit-none : w .pending ≡ 0 → Ends v (commitOps e w) (committed w) w left xs (record { answer = outcome.Done; writer = w; left = left }) xs
+  commit-none z = rw (eq-eqb (w .pending) 0 z) (ends-none v w left xs fine)
+
+  pub commit-some : (r : Spent) (ys : List ℕ) (next : PageWriter) (out : Ended) → (w .pending ≡ 0 → ⊥)
+      → Ran (pageStart (w .page .0)) left (cond true (chunkOps e w) []) xs r ys → next ≡ nextChunk w → out ≡ came r next w
+      → Ends v (commitOps e w) (committed w) w left xs out ys
+  commit-some r ys next out n ran f o =
+      rw (ne-eqb (w .pending) 0 n, o, f) (ends-ran v (chunkOps e w) (nextChunk w) w left xs r ys fine ran)

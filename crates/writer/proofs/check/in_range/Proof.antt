@@ -1,0 +1,72 @@
+-- `writer::check::in_range` meets its contract. Assumes nothing.
+use mathlib.Core.Path.{sym, _∙_}
+use native.Mathlib.Omega.{arith}
+use Rattle.writer.proofs.CheckLaws.{header-true, header-false, header-facts, in-range-no, in-range-yes}
+use borrow.Author.Needs.{needs}
+use Rattle.writer.proofs.check.in_range.Statement.{statement}
+use Rattle.writer.proofs.check.in_range.Tie as tie
+
+check-header-requires : tie.Need-check-header-requires
+check-header-requires c κs = search needs
+
+enum-told : tie.Need-enum-told
+enum-told c = search needs
+
+enum-told-2 : tie.Need-enum-told-2
+enum-told-2 c = search needs
+
+returns : tie.Need-returns
+returns c =
+    in-range-no (c .before .before .before .args .w)
+    (header-false (c .before .before .before .args .w .h) _ (sym (c .before .before .check-header .ensures) ∙ c .enum-told2 .given .1))
+
+add-start : tie.Need-add-start
+add-start c =
+    let w = c .before .before .before .before .before .args .w in
+    omega (arith, header-facts (w .h) (header-true (w .h) (sym (c .before .before .before .before .check-header .ensures) ∙ c .before .before .enum-told .given .1)))
+
+sub-less : tie.Need-sub-less
+sub-less c = search needs
+
+less-requires : tie.Need-less-requires
+less-requires c κs = search needs
+
+least-requires : tie.Need-least-requires
+least-requires c κs = search needs
+
+less-requires-2 : tie.Need-less-requires-2
+less-requires-2 c κs = search needs
+
+less-requires-3 : tie.Need-less-requires-3
+less-requires-3 c κs = search needs
+
+index-requires : tie.Need-index-requires
+index-requires c κs = search needs
+
+returns-2 : tie.Need-returns-2
+returns-2 c =
+    let b = c .before .before .before .before .before .before .before .before .before .before .before .before .before in
+    let w = b .before .args .w in
+    in-range-yes w (c .before .before .before .before .index .result) (c .before .before .before .before .before .before .before .least .result) (c .before .before .before .before .before .before .less2 .result) (c .before .before .before .before .before .less3 .result)
+    (header-true (w .h) (sym (b .check-header .ensures) ∙ c .before .before .before .before .before .before .before .before .before .before .before .enum-told .given .1))
+    (c .before .before .before .before .index .ensures)
+    (c .before .before .before .before .before .before .before .least .ensures ∙ rw (c .before .before .before .before .before .before .before .before .less .ensures))
+    (c .before .before .before .before .before .before .less2 .ensures)
+    (c .before .before .before .before .before .less3 .ensures)
+
+pub in-range-spec : {M : Type 1} → statement M
+in-range-spec =
+    tie.close
+    (tie.spec
+    check-header-requires
+    enum-told
+    enum-told-2
+    returns
+    add-start
+    sub-less
+    less-requires
+    least-requires
+    less-requires-2
+    less-requires-3
+    index-requires
+    returns-2)

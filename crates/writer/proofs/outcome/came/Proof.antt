@@ -1,0 +1,12 @@
+-- `writer::outcome::came` meets its contract. Assumes nothing.
+use Rattle.writer.proofs.outcome.came.Statement.{statement}
+use Rattle.writer.proofs.outcome.came.Tie as tie
+
+returns : tie.Need-returns
+returns c = rw (c .if1 .taken)
+
+returns-2 : tie.Need-returns-2
+returns-2 c = rw (c .if1 .left)
+
+pub came-spec : {M : Type 1} → statement M
+came-spec = tie.close (tie.spec returns returns-2)

@@ -1,0 +1,17 @@
+-- `writer::page_writer::PageWriter::len` meets its contract. Assumes nothing.
+use mathlib.Core.Path.{sym, _∙_}
+use borrow.Author.Needs.{needs}
+use Rattle.writer.proofs.page_writer.PageWriter.len.Statement.{statement}
+use Rattle.writer.proofs.page_writer.PageWriter.len.Tie as tie
+
+in-range-requires : tie.Need-in-range-requires
+in-range-requires c κs = search needs
+
+returns : tie.Need-returns
+returns c = rw (sym (c .before .in-range .ensures) ∙ c .if1 .taken)
+
+returns-2 : tie.Need-returns-2
+returns-2 c = rw (sym (c .before .in-range .ensures) ∙ c .if1 .left)
+
+pub len-spec : {M : Type 1} → statement M
+len-spec = tie.close (tie.spec in-range-requires returns returns-2)

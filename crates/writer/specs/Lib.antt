@@ -1,0 +1,4 @@
+pub mod Commits
+pub mod Outcomes
+pub mod States
+pub mod Verdicts

@@ -1,0 +1,58 @@
+-- What a call comes to that owes operations (document 01, 'Adding to a page', the stores left, and row 9): refused before its
+-- work, done where all of them were made, or cut, and then the writer is as at entry. Assumes nothing.
+use mathlib.Core.Bool.{cond}
+use mathlib.Core.List.{List}
+use Prim.Native.Nat.{ℕ}
+use Rattle.types.specs.declared.refusal.Refusal.the-variants.{Cut, BadState}
+use Rattle.types.specs.declared.refusal.Verdict.{Verdict}
+use Rattle.types.specs.declared.refusal.Verdict.the-variants.{Fine, Refused}
+use Rattle.flash.specs.Geometry.{pageStart}
+use Rattle.flash.specs.Operations.{Op, spent, allowed}
+use Rattle.flash.specs.declared.ops.Spent.{Spent}
+use Rattle.writer.specs.States.{inRange}
+use Rattle.writer.specs.declared.answers.Ended.{Ended}
+use Rattle.writer.specs.declared.answers.Length.{Length}
+use Rattle.writer.specs.declared.answers.Length.the-variants as len
+use Rattle.writer.specs.declared.answers.Outcome.{Outcome}
+use Rattle.writer.specs.declared.answers.Outcome.the-variants as outcome
+use Rattle.writer.specs.declared.answers.Place.{Place}
+use Rattle.writer.specs.declared.answers.Place.the-variants as place
+use Rattle.writer.specs.declared.answers.Taking.{Taking}
+use Rattle.writer.specs.declared.answers.Taking.the-variants as taking
+use Rattle.writer.specs.declared.answers.Wrote.{Wrote}
+use Rattle.writer.specs.declared.page_writer.PageWriter.{PageWriter}
+
+-- the operations were made and the writer goes on as next, or one was cut
+abbrev pub came : Spent → PageWriter → PageWriter → Ended
+came run next w =
+    record {
+      answer = cond (run .ok) outcome.Done (outcome.Refused Cut);
+      writer = cond (run .ok) next w;
+      left = run .left;
+    }
+
+-- what a call hands back that owes these operations
+abbrev pub ended : Verdict → List Op → PageWriter → PageWriter → ℕ → Ended
+ended (Refused why) ops next w left = record { answer = outcome.Refused why; writer = w; left = left }
+ended Fine ops next w left = came (spent left ops) next w
+
+-- and the flash after it
+abbrev pub endedFlash : Verdict → List Op → PageWriter → ℕ → List ℕ → List ℕ
+endedFlash (Refused why) ops w left xs = xs
+endedFlash Fine ops w left xs = allowed (pageStart (w .page .0)) left ops xs
+
+-- a write that is done answers the number of bytes that it took
+abbrev pub took : ℕ → Outcome → Taking
+took n outcome.Done = taking.Took n
+took n (outcome.Refused why) = taking.Refused why
+
+abbrev pub wrote : ℕ → Ended → Wrote
+wrote n e = record { answer = took n (e .answer); writer = e .writer; left = e .left }
+
+-- ---- the calls without a flash: 11, or a number of the state
+
+abbrev pub lengthOf : PageWriter → Length
+lengthOf w = cond (inRange w) (len.Bytes (w .total)) (len.Refused BadState)
+
+abbrev pub placeOf : PageWriter → Place
+placeOf w = cond (inRange w) (place.Page (w .page)) (place.Refused BadState)

@@ -1,0 +1,6 @@
+// Adding to a page (page.rs, PageWriter): chunks of bytes, stored in whole groups, each with its header last.
+pub mod answers;
+mod check;
+mod commit;
+mod outcome;
+pub mod page_writer;

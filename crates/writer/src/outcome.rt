@@ -1,0 +1,49 @@
+// What a call hands back whose operations were run.
+use super::answers::Ended;
+use super::answers::Outcome;
+use super::answers::Taking;
+use super::answers::Wrote;
+use super::page_writer::PageWriter;
+use flash::ops::Spent;
+use types::refusal::Refusal;
+ghost use mathlib.Core.Path.{_≡_};
+ghost use Rattle.writer.specs.Outcomes.{came, wrote};
+
+// All were made and the writer goes on as next, or one was cut.
+pub(crate) fn came(run: Spent, next: PageWriter, w: PageWriter) -> Ended
+    ensures answers { λ r. ⌜ r ≡ came run next w ⌝ }
+{
+    if run.ok {
+        Ended {
+            answer: Outcome::Done,
+            writer: next,
+            left: run.left,
+        }
+    } else {
+        Ended {
+            answer: Outcome::Refused(Refusal::Cut),
+            writer: w,
+            left: run.left,
+        }
+    }
+}
+
+// A write that is done took n bytes.
+pub(crate) fn wrote(n: usize, e: Ended) -> Wrote
+    ensures answers { λ r. ⌜ r ≡ wrote n e ⌝ }
+{
+    let answer = e.answer;
+    let writer = e.writer;
+    match answer {
+        Outcome::Done => Wrote {
+            answer: Taking::Took(n),
+            writer,
+            left: e.left,
+        },
+        Outcome::Refused(no) => Wrote {
+            answer: Taking::Refused(no),
+            writer,
+            left: e.left,
+        },
+    }
+}

@@ -1,0 +1,75 @@
+// The writer by value: where it writes, and what waits to be stored.
+use super::answers::Length;
+use super::answers::Place;
+use super::check::in_range;
+use crc::register::Crc32;
+use types::config::ALIGN;
+use types::config::PAGE_HEADER_SIZE;
+use types::page_id::PageID;
+use types::refusal::Refusal;
+ghost use mathlib.Core.Path.{_≡_};
+ghost use Rattle.writer.specs.Outcomes.{lengthOf, placeOf};
+ghost use Rattle.writer.specs.States.{fresh, newWriter};
+
+pub struct PageWriter {
+    pub page: PageID,
+    // Bytes of the higher header.
+    pub h: usize,
+    // Whether the page is erased before the first store.
+    pub armed: bool,
+    // The sum of the pending bytes in the making.
+    pub crc: u32,
+    // The group that is not finished, and behind its bytes whatever was there before.
+    pub buf: [u8; ALIGN],
+    // Bytes taken since the page was opened.
+    pub total: usize,
+    // Where the chunk starts that is being written, and how many bytes it has.
+    pub offset: usize,
+    pub pending: usize,
+}
+
+impl PageWriter {
+    // A writer that goes on at an offset.
+    pub(crate) fn fresh(armed: bool, page: PageID, h: usize, offset: usize) -> PageWriter
+        ensures answers { λ r. ⌜ r ≡ fresh armed page h offset ⌝ }
+    {
+        PageWriter {
+            page,
+            h,
+            armed,
+            crc: Crc32::new().0,
+            buf: [0; ALIGN],
+            total: 0,
+            offset,
+            pending: 0,
+        }
+    }
+
+    pub fn new() -> PageWriter
+        ensures answers { λ r. ⌜ r ≡ newWriter ⌝ }
+    {
+        PageWriter::fresh(true, PageID::zero(), 0, PAGE_HEADER_SIZE)
+    }
+
+    // Bytes taken since the page was opened.
+    pub fn len(self) -> Length
+        ensures answers { λ r. ⌜ r ≡ lengthOf self ⌝ }
+    {
+        if in_range(self) {
+            Length::Bytes(self.total)
+        } else {
+            Length::Refused(Refusal::BadState)
+        }
+    }
+
+    pub fn page_id(self) -> Place
+        ensures answers { λ r. ⌜ r ≡ placeOf self ⌝ }
+    {
+        let page = self.page;
+        if in_range(self) {
+            Place::Page(page)
+        } else {
+            Place::Refused(Refusal::BadState)
+        }
+    }
+}
