@@ -1,6 +1,9 @@
 // Adding to a page (page.rs, PageWriter): chunks of bytes, stored in whole groups, each with its header last.
 pub mod answers;
+mod buffer;
 mod check;
 mod commit;
+mod group;
 mod outcome;
 pub mod page_writer;
+mod write;

@@ -1,0 +1,82 @@
+-- The operations of a write, run one after the other. Assumes nothing.
+use mathlib.Core.Path.{_≡_, sym, ap, _∙_}
+use mathlib.Core.Bool.{cond, not, _&&_}
+use mathlib.Core.List.{List, [], append-assoc}
+use Prim.Native.Nat.{ℕ, _+_, _-_, _≤_, min}
+use native.Mathlib.Omega.{arith}
+use lib.Dec.{eqb, leb}
+use lib.ListN.{length, take, drop, length-take}
+use borrow.Author.Tests.{eq-eqb, ne-eqb}
+use Rattle.types.specs.Build.{pageSize, maxChunkSize}
+use Rattle.types.specs.declared.refusal.Refusal.{Refusal}
+use Rattle.types.specs.declared.refusal.Verdict.{Verdict}
+use Rattle.types.specs.declared.refusal.Verdict.the-variants.{Fine, Refused}
+use Rattle.flash.specs.Geometry.{pageStart}
+use Rattle.flash.specs.Operations.{erase, store, opIf}
+use Rattle.flash.specs.declared.ops.Spent.{Spent}
+use Rattle.flash.proofs.OperationLaws.{Ran, ran-append}
+use Rattle.writer.specs.Commits.{payloadFrom, groupAt, chunkOps}
+use Rattle.writer.specs.Outcomes.{came, ended, endedFlash, wrote}
+use Rattle.writer.specs.Writes.{takes, lacking, toGroup, completes, toWhole, groupOf, grown, closed, payloadOps, takingOps, writeOps, written}
+use Rattle.writer.specs.declared.answers.Ended.{Ended}
+use Rattle.writer.specs.declared.answers.Taking.the-variants as taking
+use Rattle.writer.specs.declared.answers.Wrote.{Wrote}
+use Rattle.writer.specs.declared.page_writer.PageWriter.{PageWriter}
+use Rattle.writer.proofs.OutcomeLaws.{ends-refused, ends-ran, ends-none}
+
+pub taking-ran : (e left lack first many : ℕ) (w next : PageWriter) (bytes group part v₀ v₁ v₂ v₃ v₄ : List ℕ) (x y z u : Spent)
+    → lack ≡ lacking w → first ≡ toGroup w (length bytes) → many ≡ toWhole w (length bytes)
+    → group ≡ groupOf w bytes → part ≡ take many (drop first bytes) → next ≡ grown w bytes
+    → Ran (pageStart (w .page .0)) left (opIf (w .armed) (erase e)) v₀ x v₁
+    → Ran (pageStart (w .page .0)) (x .left) (opIf (not (eqb lack 0) && leb lack (length bytes)) (store (groupAt w) group)) v₁ y v₂
+    → Ran (pageStart (w .page .0)) (y .left) (opIf (not (eqb many 0)) (store (payloadFrom w (w .pending + first)) part)) v₂ z v₃
+    → Ran (pageStart (next .page .0)) (z .left) (cond (eqb (next .pending) maxChunkSize) (chunkOps e next) []) v₃ u v₄
+    → Ran (pageStart (w .page .0)) left (takingOps e w bytes) v₀ (record { ok = x .ok && y .ok && z .ok && u .ok; left = u .left }) v₄
+unfolding takingOps payloadOps
+taking-ran e left lack first many w next bytes group part v₀ v₁ v₂ v₃ v₄ x y z u el ef em eg ep en p q r s =
+    let base = pageStart (w .page .0) in
+    let second = rw (el, eg) at q in
+    let third = rw (ep, em, ef) at r in
+    let last = rw en at s in
+    rw (← (append-assoc (opIf (w .armed) (erase e)) (opIf (completes w (length bytes)) (store (groupAt w) (groupOf w bytes))) _))
+    (ran-append base left _ _ v₀ v₃ v₄ (record { ok = x .ok && y .ok && z .ok; left = z .left }) u
+    (ran-append base left _ _ v₀ v₂ v₃ (record { ok = x .ok && y .ok; left = y .left }) z (ran-append base left _ _ v₀ v₁ v₂ x y p second) third)
+    last)
+
+-- ---- what is taken fits
+
+pub taken-fits : (w : PageWriter) (bytes : List ℕ) (n : ℕ) → n ≡ takes (length bytes) w → w .pending ≤ maxChunkSize → w .pending + length (take n bytes) ≤ maxChunkSize
+taken-fits w bytes n e h = rw length-take (fits (length bytes) (4096 - (w .offset + 8 + w .pending)) (w .pending) n e h)
+  where
+    fits : (l page p n : ℕ) → n ≡ min l (min page (4076 - p)) → p ≤ 4076 → p + min n l ≤ 4076
+    fits l page p n e h = omega arith
+
+pub grown-fits : (w next : PageWriter) (bytes : List ℕ) → next ≡ grown w bytes → w .offset ≤ pageSize → w .pending + length bytes ≤ maxChunkSize
+    → (next .offset ≤ pageSize) × (next .pending ≤ maxChunkSize)
+grown-fits w next bytes e o p = rw e (o, p)
+
+-- ---- write
+
+-- out is handed back and ys is the flash, as the definition says
+abbrev pub Writes : Verdict → ℕ → PageWriter → List ℕ → ℕ → List ℕ → Wrote → List ℕ → Type 0
+Writes v e w bytes left xs out ys =
+    (out ≡ wrote (takes (length bytes) w) (ended v (writeOps e w bytes) (written w bytes) w left)) × (ys ≡ endedFlash v (writeOps e w bytes) w left xs)
+
+module _ (v : Verdict) (e : ℕ) (w : PageWriter) (bytes : List ℕ) (left : ℕ) (xs : List ℕ) where
+  pub write-refused : (why : Refusal) → v ≡ Refused why → Writes v e w bytes left xs (record { answer = taking.Refused why; writer = w; left = left }) xs
+  write-refused why f =
+      let r = ends-refused v (writeOps e w bytes) (written w bytes) w left xs why f in
+      (ap (wrote (takes (length bytes) w)) (r .0), r .1)
+
+  pub write-none : (n : ℕ) → v ≡ Fine → n ≡ takes (length bytes) w → n ≡ 0
+      → Writes v e w bytes left xs (record { answer = taking.Took n; writer = w; left = left }) xs
+  write-none n f t z =
+      let r = ends-none v w left xs f in
+      rw (eq-eqb (takes (length bytes) w) 0 (sym t ∙ z), ← t) (ap (wrote n) (r .0), r .1)
+
+  pub write-some : (n : ℕ) (r : Spent) (ys : List ℕ) (next after : PageWriter) (end : Ended) (out : Wrote) → v ≡ Fine → n ≡ takes (length bytes) w → (n ≡ 0 → ⊥)
+      → next ≡ grown w (take n bytes) → Ran (pageStart (w .page .0)) left (takingOps e w (take n bytes)) xs r ys → after ≡ closed next → end ≡ came r after w → out ≡ wrote n end
+      → Writes v e w bytes left xs out ys
+  write-some n r ys next after end out f t z g ran c d o =
+      let q = ends-ran v (takingOps e w (take n bytes)) (closed (grown w (take n bytes))) w left xs r ys f ran in
+      rw (ne-eqb (takes (length bytes) w) 0 (λ k. z (t ∙ k)), ← t, o, d, c, g) (ap (wrote n) (q .0), q .1)

@@ -1,0 +1,13 @@
+// Bytes laid into a lent buffer.
+use flash::part::put;
+use types::num::least;
+ghost use mathlib.Core.Path.{_≡_};
+ghost use Rattle.flash.specs.Patch.{patch};
+
+// Puts the bytes into the buffer from an index on, as far as they fit.
+pub(crate) fn lay(buffer: &mut [u8], at: usize, bytes: &[u8])
+    ensures bytes { λ _. ⌜ now (buffer .exit) ≡ patch at (now (bytes .entry)) (now (buffer .entry)) ⌝ }
+{
+    let from = least(at, buffer.len());
+    put(&mut buffer[from..], bytes);
+}

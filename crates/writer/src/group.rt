@@ -1,0 +1,56 @@
+// The group buffer: bytes that are too few for a store wait in it.
+use super::buffer::lay;
+use super::page_writer::PageWriter;
+use types::config::ALIGN;
+use types::num::least;
+ghost use mathlib.Core.Path.{_≡_};
+ghost use Rattle.flash.specs.Patch.{patch};
+ghost use Rattle.writer.specs.Writes.{lacking, toGroup, toWhole, groupOf, bufferOf};
+
+// What the group lacks that is not finished.
+pub(crate) fn lacking(w: PageWriter) -> usize
+    ensures answers { λ r. ⌜ r ≡ lacking w ⌝ }
+{
+    (ALIGN - w.pending % ALIGN) % ALIGN
+}
+
+// How many of n bytes go to it.
+pub(crate) fn to_group(w: PageWriter, n: usize) -> usize
+    ensures answers { λ r. ⌜ r ≡ toGroup w n ⌝ }
+{
+    least(lacking(w), n)
+}
+
+// How many go to whole groups behind it.
+pub(crate) fn to_whole(w: PageWriter, n: usize) -> usize
+    ensures answers { λ r. ⌜ r ≡ toWhole w n ⌝ }
+{
+    (n - to_group(w, n)) / ALIGN * ALIGN
+}
+
+// The buffer with bytes put into it, as far as they fit.
+fn filled(buf: [u8; ALIGN], at: usize, bytes: &[u8]) -> [u8; ALIGN]
+    ensures answers { λ r. ⌜ r ≡ patch at (now (bytes .entry)) buf ⌝ }
+{
+    let mut b = buf;
+    lay(&mut b, at, bytes);
+    b
+}
+
+// The group with the first bytes in it.
+pub(crate) fn group_of(w: PageWriter, bytes: &[u8]) -> [u8; ALIGN]
+    ensures answers { λ r. ⌜ r ≡ groupOf w (now (bytes .entry)) ⌝ }
+{
+    let n = to_group(w, bytes.len());
+    let buf = w.buf;
+    filled(buf, w.pending % ALIGN, &bytes[..n])
+}
+
+// The buffer once the whole groups are gone.
+pub(crate) fn buffer_of(w: PageWriter, bytes: &[u8]) -> [u8; ALIGN]
+    ensures answers { λ r. ⌜ r ≡ bufferOf w (now (bytes .entry)) ⌝ }
+{
+    let n = bytes.len();
+    let from = to_group(w, n) + to_whole(w, n);
+    filled(group_of(w, bytes), 0, &bytes[from..])
+}

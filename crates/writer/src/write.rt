@@ -1,0 +1,147 @@
+// Taking bytes.
+use super::answers::Taking;
+use super::answers::Wrote;
+use super::check::check_writer;
+use super::commit::finish_chunk;
+use super::commit::next_chunk;
+use super::group::buffer_of;
+use super::group::group_of;
+use super::group::lacking;
+use super::group::to_group;
+use super::group::to_whole;
+use super::outcome::came;
+use super::outcome::wrote;
+use super::page_writer::PageWriter;
+use crc::register::Crc32;
+use flash::ops::Spent;
+use flash::ops::erase_if;
+use flash::ops::store_if;
+use flash::part::part_of;
+use types::config::ALIGN;
+use types::config::CHUNK_HEADER_SIZE;
+use types::config::ERASE_VALUE;
+use types::config::MAX_CHUNK_SIZE;
+use types::config::PAGE_SIZE;
+use types::num::least;
+use types::num::less;
+use types::refusal::Verdict;
+ghost use mathlib.Core.Path.{_≡_};
+ghost use Prim.Native.Nat.{_+_, _≤_};
+ghost use lib.ListN.{length};
+ghost use Rattle.types.specs.Build.{pageSize, maxChunkSize, eraseValue};
+ghost use Rattle.flash.specs.Geometry.{pageStart};
+ghost use Rattle.flash.specs.Operations.{spent, allowed};
+ghost use Rattle.writer.specs.Outcomes.{ended, endedFlash, wrote};
+ghost use Rattle.writer.specs.Verdicts.{writerVerdict};
+ghost use Rattle.writer.specs.Writes.{takes, grown, closed, takingOps, writeOps, written};
+
+// How many of n bytes are taken.
+fn takes(n: usize, w: PageWriter) -> usize
+    requires { ⌜ w .offset ≤ pageSize ⌝ }
+    requires { ⌜ w .pending ≤ maxChunkSize ⌝ }
+    ensures answers { λ r. ⌜ r ≡ takes n w ⌝ }
+{
+    let page = less(PAGE_SIZE, w.offset + CHUNK_HEADER_SIZE + w.pending);
+    let chunk = less(MAX_CHUNK_SIZE, w.pending);
+    least(n, least(page, chunk))
+}
+
+// The writer with these bytes.
+fn grown(w: PageWriter, bytes: &[u8]) -> PageWriter
+    requires { ⌜ w .total ≤ pageSize ⌝ }
+    requires { ⌜ w .pending + length (now bytes) ≤ maxChunkSize ⌝ }
+    ensures answers { λ r. ⌜ r ≡ grown w (now (bytes .entry)) ⌝ }
+{
+    let page = w.page;
+    PageWriter {
+        page,
+        h: w.h,
+        armed: false,
+        crc: Crc32(w.crc).update(bytes).0,
+        buf: buffer_of(w, bytes),
+        total: w.total + bytes.len(),
+        offset: w.offset,
+        pending: w.pending + bytes.len(),
+    }
+}
+
+// A chunk that is full is finished.
+fn closed(w: PageWriter) -> PageWriter
+    requires { ⌜ w .offset ≤ pageSize ⌝ }
+    requires { ⌜ w .pending ≤ maxChunkSize ⌝ }
+    ensures answers { λ r. ⌜ r ≡ closed w ⌝ }
+{
+    if w.pending == MAX_CHUNK_SIZE {
+        next_chunk(w)
+    } else {
+        w
+    }
+}
+
+// The operations of a write that takes these bytes, where `next` is the writer with them. Where one is cut none is left, so the
+// later ones make nothing.
+fn take_bytes(w: PageWriter, next: PageWriter, flash: &mut [u8], bytes: &[u8], left: usize) -> Spent
+    requires { ⌜ w .offset ≤ pageSize ⌝ }
+    requires { ⌜ w .pending + length (now bytes) ≤ maxChunkSize ⌝ }
+    requires { ⌜ next ≡ grown w (now bytes) ⌝ }
+    ensures answers { λ r. ⌜ r ≡ spent left (takingOps eraseValue w (now (bytes .entry))) ⌝ }
+    ensures bytes { λ _. ⌜ now (flash .exit) ≡ allowed (pageStart (w .page .0)) left (takingOps eraseValue w (now (bytes .entry))) (now (flash .entry)) ⌝ }
+{
+    let n = bytes.len();
+    let page = w.page;
+    let lack = lacking(w);
+    let first = to_group(w, n);
+    let many = to_whole(w, n);
+    let group = group_of(w, bytes);
+    let from = w.offset + CHUNK_HEADER_SIZE;
+    let a = erase_if(w.armed, flash, page, ERASE_VALUE, left);
+    let b = store_if(
+        (lack != 0) & (lack <= n),
+        flash,
+        page,
+        from + (w.pending - w.pending % ALIGN),
+        &group,
+        a.left,
+    );
+    let c = store_if(
+        many != 0,
+        flash,
+        page,
+        from + (w.pending + first),
+        part_of(bytes, first, many),
+        b.left,
+    );
+    let d = finish_chunk(next.pending == MAX_CHUNK_SIZE, next, flash, c.left);
+    Spent {
+        ok: a.ok & b.ok & c.ok & d.ok,
+        left: d.left,
+    }
+}
+
+impl PageWriter {
+    // Takes as many of the bytes as there is room for.
+    pub fn write(self, flash: &mut [u8], bytes: &[u8], left: usize) -> Wrote
+        ensures answers { λ r. ⌜ r ≡ wrote (takes (length (now (bytes .entry))) self) (ended (writerVerdict (length (now (flash .entry))) self) (writeOps eraseValue self (now (bytes .entry))) (written self (now (bytes .entry))) self left) ⌝ }
+        ensures bytes { λ _. ⌜ now (flash .exit) ≡ endedFlash (writerVerdict (length (now (flash .entry))) self) (writeOps eraseValue self (now (bytes .entry))) self left (now (flash .entry)) ⌝ }
+    {
+        if let Verdict::Refused(no) = check_writer(flash.len(), self) {
+            return Wrote {
+                answer: Taking::Refused(no),
+                writer: self,
+                left,
+            };
+        }
+        let n = takes(bytes.len(), self);
+        if n == 0 {
+            return Wrote {
+                answer: Taking::Took(n),
+                writer: self,
+                left,
+            };
+        }
+        let part = &bytes[..n];
+        let next = grown(self, part);
+        let run = take_bytes(self, next, flash, part, left);
+        wrote(n, came(run, closed(next), self))
+    }
+}
