@@ -1,4 +1,6 @@
 pub mod Commits
+pub mod Headings
+pub mod Openings
 pub mod Outcomes
 pub mod States
 pub mod Verdicts

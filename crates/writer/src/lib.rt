@@ -4,6 +4,8 @@ mod buffer;
 mod check;
 mod commit;
 mod group;
+mod heading;
+mod opening;
 mod outcome;
 pub mod page_writer;
 mod write;

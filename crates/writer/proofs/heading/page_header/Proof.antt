@@ -1,0 +1,85 @@
+-- `writer::heading::page_header` meets its contract. Assumes nothing.
+use mathlib.Core.Path.{_∙_}
+use Rattle.flash.specs.Patch.{blank}
+use Rattle.writer.proofs.HeadingLaws.{room-laid}
+use borrow.Author.Needs.{needs}
+use Rattle.writer.proofs.heading.page_header.Statement.{statement}
+use Rattle.writer.proofs.heading.page_header.Tie as tie
+
+put32-requires : tie.Need-put32-requires
+put32-requires c κs = search needs
+
+cast-put32 : tie.Need-cast-put32
+cast-put32 c = search needs
+
+put32-requires-2 : tie.Need-put32-requires-2
+put32-requires-2 c κs = search needs
+
+crc32-requires : tie.Need-crc32-requires
+crc32-requires c κs = search needs
+
+put32-requires-3 : tie.Need-put32-requires-3
+put32-requires-3 c κs = search needs
+
+slice-aggregate-lay : tie.Need-slice-aggregate-lay
+slice-aggregate-lay c = search needs
+
+slice-aggregate-lay-2 : tie.Need-slice-aggregate-lay-2
+slice-aggregate-lay-2 c = search needs
+
+lay-requires : tie.Need-lay-requires
+lay-requires c κs = search needs
+
+slice-aggregate-lay-3 : tie.Need-slice-aggregate-lay-3
+slice-aggregate-lay-3 c = search needs
+
+slice-aggregate-lay-4 : tie.Need-slice-aggregate-lay-4
+slice-aggregate-lay-4 c = search needs
+
+lay-requires-2 : tie.Need-lay-requires-2
+lay-requires-2 c κs = search needs
+
+slice-aggregate-lay-5 : tie.Need-slice-aggregate-lay-5
+slice-aggregate-lay-5 c = search needs
+
+slice-aggregate-lay-6 : tie.Need-slice-aggregate-lay-6
+slice-aggregate-lay-6 c = search needs
+
+lay-requires-3 : tie.Need-lay-requires-3
+lay-requires-3 c κs = search needs
+
+slice-aggregate-lay-7 : tie.Need-slice-aggregate-lay-7
+slice-aggregate-lay-7 c = search needs
+
+lay-requires-4 : tie.Need-lay-requires-4
+lay-requires-4 c κs = search needs
+
+returns : tie.Need-returns
+unfolding blank
+returns c =
+    let a = c .before .before .before .before .before .before .before .before .before .before .before .before .before .before .before .before .before .before .before .before .before .args in
+    c .before .lay4 .ensures
+    ∙ rw (c .before .before .before .before .lay3 .ensures, c .before .before .before .before .before .before .before .before .lay2 .ensures, c .before .before .before .before .before .before .before .before .before .before .before .before .lay .ensures, c .before .before .before .before .before .before .before .before .before .before .before .before .before .before .before .put323 .ensures, c .before .before .before .before .before .before .before .before .before .before .before .before .before .before .before .before .crc32 .ensures, c .before .before .before .before .before .before .before .before .before .before .before .before .before .before .before .before .before .put322 .ensures, c .before .before .before .before .before .before .before .before .before .before .before .before .before .before .before .before .before .before .before .put32 .ensures)
+    (room-laid (a .magic) (a .page .0) (a .header .now))
+
+pub page-header-spec : {M : Type 1} → statement M
+page-header-spec =
+    tie.close
+    (tie.spec
+    put32-requires
+    cast-put32
+    put32-requires-2
+    crc32-requires
+    put32-requires-3
+    slice-aggregate-lay
+    slice-aggregate-lay-2
+    lay-requires
+    slice-aggregate-lay-3
+    slice-aggregate-lay-4
+    lay-requires-2
+    slice-aggregate-lay-5
+    slice-aggregate-lay-6
+    lay-requires-3
+    slice-aggregate-lay-7
+    lay-requires-4
+    returns)

@@ -1,0 +1,78 @@
+// Writing the page header.
+use super::answers::Ended;
+use super::answers::Outcome;
+use super::buffer::lay;
+use super::check::check_heading;
+use super::outcome::came;
+use super::page_writer::PageWriter;
+use crc::crc32;
+use flash::field::put32;
+use flash::ops::Spent;
+use flash::ops::erase_if;
+use flash::ops::store_if;
+use types::config::ERASE_VALUE;
+use types::config::MAX_HEADER_SIZE;
+use types::config::PAGE_HEADER_SIZE;
+use types::page_id::PageID;
+use types::refusal::Verdict;
+ghost use mathlib.Core.Path.{_≡_};
+ghost use Prim.Native.Nat.{_≤_};
+ghost use lib.ListN.{length};
+ghost use Rattle.types.specs.Build.{maxHeaderSize, eraseValue};
+ghost use Rattle.flash.specs.Geometry.{pageStart};
+ghost use Rattle.flash.specs.Operations.{spent, allowed};
+ghost use Rattle.writer.specs.Headings.{headerRoom, headerOps, headed};
+ghost use Rattle.writer.specs.Outcomes.{ended, endedFlash};
+ghost use Rattle.writer.specs.Verdicts.{headingVerdict};
+
+// A page header at the start of the longest one's room.
+fn page_header(magic: u32, page: PageID, header: &[u8]) -> [u8; PAGE_HEADER_SIZE + MAX_HEADER_SIZE]
+    ensures answers { λ r. ⌜ r ≡ headerRoom magic (page .0) (now (header .entry)) ⌝ }
+{
+    let m = put32(magic);
+    let p = put32(page.0 as u32);
+    let s = put32(crc32(header));
+    let mut room = [0; PAGE_HEADER_SIZE + MAX_HEADER_SIZE];
+    lay(&mut room, 0, &m);
+    lay(&mut room, 4, &p);
+    lay(&mut room, 8, &s);
+    lay(&mut room, PAGE_HEADER_SIZE, header);
+    room
+}
+
+// The operations of write_header.
+fn head_page(w: PageWriter, flash: &mut [u8], magic: u32, header: &[u8], left: usize) -> Spent
+    requires { ⌜ length (now header) ≤ maxHeaderSize ⌝ }
+    ensures answers { λ r. ⌜ r ≡ spent left (headerOps eraseValue w magic (now (header .entry))) ⌝ }
+    ensures bytes { λ _. ⌜ now (flash .exit) ≡ allowed (pageStart (w .page .0)) left (headerOps eraseValue w magic (now (header .entry))) (now (flash .entry)) ⌝ }
+{
+    let page = w.page;
+    let room = page_header(magic, page, header);
+    let n = PAGE_HEADER_SIZE + header.len();
+    let a = erase_if(w.armed, flash, page, ERASE_VALUE, left);
+    let b = store_if(true, flash, page, 0, &room[..n], a.left);
+    Spent {
+        ok: a.ok & b.ok,
+        left: b.left,
+    }
+}
+
+impl PageWriter {
+    // Stores the page header.
+    pub fn write_header(self, flash: &mut [u8], magic: u32, header: &[u8], left: usize) -> Ended
+        ensures answers { λ r. ⌜ r ≡ ended (headingVerdict (length (now (flash .entry))) self (length (now (header .entry)))) (headerOps eraseValue self magic (now (header .entry))) (headed self) self left ⌝ }
+        ensures bytes { λ _. ⌜ now (flash .exit) ≡ endedFlash (headingVerdict (length (now (flash .entry))) self (length (now (header .entry)))) (headerOps eraseValue self magic (now (header .entry))) self left (now (flash .entry)) ⌝ }
+    {
+        if let Verdict::Refused(no) = check_heading(flash.len(), self, header.len()) {
+            return Ended {
+                answer: Outcome::Refused(no),
+                writer: self,
+                left,
+            };
+        }
+        let run = head_page(self, flash, magic, header, left);
+        let mut next = self;
+        next.armed = false;
+        came(run, next, self)
+    }
+}
