@@ -1,13 +1,33 @@
-// Opening a page.
+// Opening a page, to write it anew or to add to it.
 use super::answers::Opened;
 use super::answers::Opening;
 use super::check::check_open;
 use super::page_writer::PageWriter;
+use flash::geometry::page_of;
+use flash::part::part_of;
+use page::walk::Ending;
+use page::walk::all_erased;
+use page::walk::walk_end;
+use types::config::ERASE_VALUE;
 use types::config::PAGE_HEADER_SIZE;
+use types::config::PAGE_SIZE;
 use types::page_id::PageID;
+use types::refusal::Refusal;
 use types::refusal::Verdict;
 ghost use mathlib.Core.Path.{_≡_};
-ghost use Rattle.writer.specs.Openings.{opened};
+ghost use Rattle.types.specs.Build.{eraseValue};
+ghost use Rattle.writer.specs.Openings.{opened, resumeAt, appended};
+
+// Where to go on in a page whose chunks end at an offset.
+fn resume_at(page: &[u8], end: usize) -> usize
+    ensures answers { λ r. ⌜ r ≡ resumeAt eraseValue (now (page .entry)) end ⌝ }
+{
+    if all_erased(part_of(page, end, page.len()), ERASE_VALUE) {
+        end
+    } else {
+        PAGE_SIZE
+    }
+}
 
 impl PageWriter {
     // To write a page anew: it is erased before the first store.
@@ -24,6 +44,33 @@ impl PageWriter {
         Opened {
             answer: Opening::Open,
             writer: PageWriter::fresh(true, page, h, PAGE_HEADER_SIZE + h),
+            left,
+        }
+    }
+
+    // To add to a page, behind its chunks.
+    pub fn open_append(self, flash: &[u8], page: PageID, h: usize, left: usize) -> Opened
+        ensures answers { λ r. ⌜ r ≡ appended eraseValue (now (flash .entry)) page h self left ⌝ }
+    {
+        if let Verdict::Refused(no) = check_open(flash.len(), page, h) {
+            return Opened {
+                answer: Opening::Refused(no),
+                writer: self,
+                left,
+            };
+        }
+        let bytes = page_of(flash, page);
+        let Ending::EndAt(end) = walk_end(bytes, PAGE_HEADER_SIZE + h) else {
+            return Opened {
+                answer: Opening::Refused(Refusal::Corrupted),
+                writer: self,
+                left,
+            };
+        };
+        let at = resume_at(bytes, end);
+        Opened {
+            answer: Opening::Open,
+            writer: PageWriter::fresh(false, page, h, at),
             left,
         }
     }

@@ -1,0 +1,21 @@
+-- `writer::opening::resume_at` meets its contract. Assumes nothing.
+use Rattle.types.specs.Build.{eraseValue}
+use Rattle.writer.proofs.OpeningLaws.{resume-end, resume-nowhere}
+use borrow.Author.Needs.{needs}
+use Rattle.writer.proofs.opening.resume_at.Statement.{statement}
+use Rattle.writer.proofs.opening.resume_at.Tie as tie
+
+part-of-requires : tie.Need-part-of-requires
+part-of-requires c κs = search needs
+
+all-erased-requires : tie.Need-all-erased-requires
+all-erased-requires c κs = search needs
+
+returns : tie.Need-returns
+returns c = let a = c .before .before .before .before .args in resume-end eraseValue (a .end) (a .page .now) (c .before .before .part-of .result .now) (c .before .all-erased .result) (c .before .before .part-of .ensures) (c .before .all-erased .ensures) (c .if1 .taken)
+
+returns-2 : tie.Need-returns-2
+returns-2 c = let a = c .before .before .before .before .args in resume-nowhere eraseValue (a .end) (a .page .now) (c .before .before .part-of .result .now) (c .before .all-erased .result) (c .before .before .part-of .ensures) (c .before .all-erased .ensures) (c .if1 .left)
+
+pub resume-at-spec : {M : Type 1} → statement M
+resume-at-spec = tie.close (tie.spec part-of-requires all-erased-requires returns returns-2)
