@@ -1,0 +1,6 @@
+pub mod FitLaws
+pub mod KeyLaws
+pub mod OrderLaws
+pub mod PartLaws
+pub mod RecordLaws
+pub mod SearchLaws

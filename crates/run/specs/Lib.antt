@@ -1,0 +1,6 @@
+pub mod Answers
+pub mod Bounds
+pub mod Keys
+pub mod Parts
+pub mod Records
+pub mod Search

@@ -1,0 +1,124 @@
+// What stands at a position of a run: a record, nothing, or a refusal (document 01, 'Runs and merge').
+ghost use mathlib.Core.Path.{_≡_};
+ghost use Prim.Native.Nat.{_+_, _≤_};
+ghost use lib.ListN.{length};
+ghost use mathlib.Core.List.{[], _∷_};
+ghost use Rattle.types.specs.Bytes.{word};
+ghost use Rattle.run.specs.Answers.{headNumber};
+ghost use Rattle.run.specs.Records.{recordHeaderSize, verdictOf, bodyAt, headAt};
+use types::config::MAX_KEY_SIZE;
+use types::config::MAX_VALUE_SIZE;
+use types::refusal::Refusal;
+
+// Bytes of a record before its key: mark, kind, key length, value length.
+pub const RECORD_HEADER_SIZE: usize = 6;
+
+// Where a record's parts lie in its run: the key from `key` up to `value`, the value from there up to `next`.
+pub struct Record {
+    pub deleted: bool,
+    pub key: usize,
+    pub value: usize,
+    pub next: usize,
+}
+
+pub enum Head {
+    Nothing,
+    Record(Record),
+    Refused(Refusal),
+}
+
+impl Head {
+    // The table's number, 0 where nothing is refused.
+    pub fn number(self) -> u8
+        ensures answers { λ r. ⌜ r ≡ headNumber self ⌝ }
+    {
+        match self {
+            Head::Nothing => 0,
+            Head::Record(_) => 0,
+            Head::Refused(why) => why.number(),
+        }
+    }
+}
+
+// What the kind byte says of its record.
+pub enum Verdict {
+    Live,
+    Deleted,
+    Refused(Refusal),
+}
+
+fn verdict_of(kind: u8) -> Verdict
+    ensures answers { λ r. ⌜ r ≡ verdictOf kind ⌝ }
+{
+    match kind {
+        0 => Verdict::Live,
+        1 => Verdict::Deleted,
+        2..=127 => Verdict::Refused(Refusal::LaterEdition),
+        128..=255 => Verdict::Refused(Refusal::Corrupted),
+    }
+}
+
+fn wide(byte: u8) -> usize
+    ensures answers { λ r. ⌜ r ≡ byte ⌝ }
+{
+    byte as usize
+}
+
+// Two bytes, the first counting least.
+fn wide_pair(low: u8, high: u8) -> usize
+    ensures answers { λ r. ⌜ r ≡ word (low ∷ high ∷ []) ⌝ }
+{
+    (low as usize) + (high as usize) * 256
+}
+
+// The rest of a record of a good kind.
+fn body(run: &[u8], at: usize, deleted: bool) -> Head
+    requires { ⌜ at + recordHeaderSize ≤ length (now run) ⌝ }
+    ensures answers { λ r. ⌜ r ≡ bodyAt recordHeaderSize (now (run .entry)) at deleted ⌝ }
+{
+    let key_len = wide(run[at + 3]);
+    if MAX_KEY_SIZE < key_len {
+        return Head::Refused(Refusal::Corrupted);
+    }
+    let value_len = wide_pair(run[at + 4], run[at + 5]);
+    if MAX_VALUE_SIZE < value_len {
+        return Head::Refused(Refusal::Corrupted);
+    }
+    let key = at + RECORD_HEADER_SIZE;
+    let value = key + key_len;
+    let next = value + value_len;
+    if run.len() < next {
+        return Head::Refused(Refusal::Corrupted);
+    }
+    Head::Record(Record {
+        deleted,
+        key,
+        value,
+        next,
+    })
+}
+
+// The head at a position of a run.
+pub fn head_at(run: &[u8], at: usize) -> Head
+    ensures answers { λ r. ⌜ r ≡ headAt (now (run .entry)) at ⌝ }
+{
+    let size = run.len();
+    if at == size {
+        return Head::Nothing;
+    }
+    if size < at {
+        return Head::Refused(Refusal::Corrupted);
+    }
+    if size - at < RECORD_HEADER_SIZE {
+        return Head::Refused(Refusal::Corrupted);
+    }
+    let marked = (run[at] == 0x48) & (run[at + 1] == 0x56);
+    if !marked {
+        return Head::Refused(Refusal::Corrupted);
+    }
+    match verdict_of(run[at + 2]) {
+        Verdict::Live => body(run, at, false),
+        Verdict::Deleted => body(run, at, true),
+        Verdict::Refused(why) => Head::Refused(why),
+    }
+}
