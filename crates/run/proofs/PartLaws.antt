@@ -2,8 +2,9 @@
 use mathlib.Core.Path.{_≡_, refl, sym, _∙_}
 use mathlib.Core.List.{List, []}
 use Prim.Native.Nat.{ℕ, _-_, _≤_, _<_}
+use native.Mathlib.Nat.{min-le-left}
 use native.Mathlib.Omega.{arith}
-use lib.ListN.{length, take, drop, drop-of-length-le, length-drop}
+use lib.ListN.{length, take, drop, drop-of-length-le, length-take, length-drop}
 use lib.Seq.{take-all, take-nil, length-take-le}
 use Rattle.run.specs.Parts.{partOf}
 
@@ -25,3 +26,7 @@ module _ (bytes : List ℕ) (from to : ℕ) where
   pub length-part : from ≤ to → to ≤ length bytes → length (partOf bytes from to) ≡ to - from
   unfolding partOf
   length-part h k = length-take-le (to - from) (drop from bytes) (omega (arith, length-drop from bytes))
+
+  pub part-fits : length (partOf bytes from to) ≤ to - from
+  unfolding partOf
+  part-fits = rw (length-take (to - from) (drop from bytes)) (min-le-left (to - from) (length (drop from bytes)))

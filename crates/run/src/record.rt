@@ -5,7 +5,8 @@ ghost use lib.ListN.{length};
 ghost use mathlib.Core.List.{[], _∷_};
 ghost use Rattle.types.specs.Bytes.{word};
 ghost use Rattle.run.specs.Answers.{headNumber};
-ghost use Rattle.run.specs.Records.{recordHeaderSize, verdictOf, bodyAt, headAt};
+ghost use Rattle.run.specs.Records.{recordHeaderSize, verdictOf, bodyAt, headAt, keyIn, valueIn};
+use crate::part::part;
 use types::config::MAX_KEY_SIZE;
 use types::config::MAX_VALUE_SIZE;
 use types::refusal::Refusal;
@@ -37,6 +38,26 @@ impl Head {
             Head::Record(_) => 0,
             Head::Refused(why) => why.number(),
         }
+    }
+}
+
+impl Record {
+    // The key, where it lies.
+    pub fn key_in(self, run: &[u8]) -> &[u8]
+        ensures answers { λ r. ⌜ now r ≡ keyIn (now (run .entry)) self ⌝ }
+    {
+        let from = self.key;
+        let to = self.value;
+        part(run, from, to)
+    }
+
+    // And the value.
+    pub fn value_in(self, run: &[u8]) -> &[u8]
+        ensures answers { λ r. ⌜ now r ≡ valueIn (now (run .entry)) self ⌝ }
+    {
+        let from = self.value;
+        let to = self.next;
+        part(run, from, to)
     }
 }
 

@@ -5,7 +5,6 @@ ghost use Rattle.run.specs.Search.{levelAt, soughtWithout, soughtIn};
 use crate::bound::Bound;
 use crate::order::Ordering;
 use crate::order::compare;
-use crate::part::part;
 use crate::record::Head;
 use crate::record::head_at;
 use types::refusal::Refusal;
@@ -65,10 +64,8 @@ pub fn search(run: &[u8], bound: Bound, lower: &[u8]) -> Sought
         let Head::Record(record) = head else {
             return without(head);
         };
-        let key = record.key;
-        let value = record.value;
         let next = record.next;
-        match compare(part(run, key, value), lower) {
+        match compare(record.key_in(run), lower) {
             Ordering::Less => {
                 at = next;
             }

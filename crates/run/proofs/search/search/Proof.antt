@@ -39,8 +39,8 @@ without-requires c κs = search needs
 returns-2 : tie.Need-returns-2 Inv-loop μ-loop
 returns-2 c = c .without .ensures ∙ laws.ends _ _ _ _ _ (c .before .before .before .loop .inv) (c .before .before .head-at .result) (c .before .before .head-at .ensures) (c .before .match2 .keys2)
 
-part-requires : tie.Need-part-requires Inv-loop μ-loop
-part-requires c κs = search needs
+key-in-requires : tie.Need-key-in-requires Inv-loop μ-loop
+key-in-requires c κs = search needs
 
 compare-requires : tie.Need-compare-requires Inv-loop μ-loop
 compare-requires c κs = search needs
@@ -52,7 +52,7 @@ loop-less : tie.Need-loop-less Inv-loop μ-loop
 loop-less c = let n = laws.nearer _ _ _ _ _ (c .before .before .before .before .before .before .before .before .loop .inv) _ _ (c .before .before .before .before .before .before .before .head-at .ensures) (c .before .before .before .before .before .head .given .1) in omega arith
 
 loop-again : tie.Need-loop-again Inv-loop μ-loop
-loop-again c = laws.below _ _ _ _ _ (c .before .before .before .before .before .before .before .before .loop .inv) _ _ (c .before .before .before .before .before .before .before .head-at .ensures) (c .before .before .before .before .before .head .given .1) _ (c .before .before .before .part .ensures) _ (c .before .before .compare .ensures) (c .enum-told2 .given .1)
+loop-again c = laws.below _ _ _ _ _ (c .before .before .before .before .before .before .before .before .loop .inv) _ _ (c .before .before .before .before .before .before .before .head-at .ensures) (c .before .before .before .before .before .head .given .1) _ (c .before .before .before .key-in .ensures) _ (c .before .before .compare .ensures) (c .enum-told2 .given .1)
 
 enum-told-3 : tie.Need-enum-told-3 Inv-loop μ-loop
 enum-told-3 c = search needs
@@ -63,13 +63,13 @@ level-requires c κs = search needs
 returns-3 : tie.Need-returns-3 Inv-loop μ-loop
 returns-3 c =
     ap At (c .level .ensures)
-    ∙ laws.level _ _ _ _ _ (c .before .before .before .before .before .before .before .before .before .loop .inv) _ _ (c .before .before .before .before .before .before .before .before .head-at .ensures) (c .before .before .before .before .before .before .head .given .1) _ (c .before .before .before .before .part .ensures) _ (c .before .before .before .compare .ensures) (c .before .enum-told3 .given .1)
+    ∙ laws.level _ _ _ _ _ (c .before .before .before .before .before .before .before .before .before .loop .inv) _ _ (c .before .before .before .before .before .before .before .before .head-at .ensures) (c .before .before .before .before .before .before .head .given .1) _ (c .before .before .before .before .key-in .ensures) _ (c .before .before .before .compare .ensures) (c .before .enum-told3 .given .1)
 
 enum-told-4 : tie.Need-enum-told-4 Inv-loop μ-loop
 enum-told-4 c = search needs
 
 returns-4 : tie.Need-returns-4 Inv-loop μ-loop
-returns-4 c = laws.above _ _ _ _ _ (c .before .before .before .before .before .before .before .before .loop .inv) _ _ (c .before .before .before .before .before .before .before .head-at .ensures) (c .before .before .before .before .before .head .given .1) _ (c .before .before .before .part .ensures) _ (c .before .before .compare .ensures) (c .enum-told4 .given .1)
+returns-4 c = laws.above _ _ _ _ _ (c .before .before .before .before .before .before .before .before .loop .inv) _ _ (c .before .before .before .before .before .before .before .head-at .ensures) (c .before .before .before .before .before .head .given .1) _ (c .before .before .before .key-in .ensures) _ (c .before .before .compare .ensures) (c .enum-told4 .given .1)
 
 pub search-spec : {M : Type 1} → statement M
 search-spec =
@@ -84,7 +84,7 @@ search-spec =
     enum-known-head
     without-requires
     returns-2
-    part-requires
+    key-in-requires
     compare-requires
     enum-told-2
     loop-less
