@@ -1,0 +1,13 @@
+pub mod CallLaws
+pub mod CheckLaws
+pub mod FallLaws
+pub mod LeastLaws
+pub mod LookLaws
+pub mod NextLaws
+pub mod PassClaims
+pub mod PassLaws
+pub mod PassRule
+pub mod PlaceLaws
+pub mod RunLaws
+pub mod SettleLaws
+pub mod StarredClaims

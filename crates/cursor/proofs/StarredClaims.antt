@@ -1,0 +1,20 @@
+-- The starred numbers on runs hold: one claim over the table, by computation. Assumes nothing.
+use mathlib.Core.Path.{_≡_, refl}
+use mathlib.Core.List.{map}
+use Rattle.types.specs.Bytes.{word}
+use Rattle.run.specs.Bounds.{pastBy}
+use Rattle.run.specs.Keys.{compareKeys}
+use Rattle.run.specs.Parts.{partOf}
+use Rattle.run.specs.Records.{bodyAt, headBy, headAt}
+use Rattle.run.specs.Search.{soughtBy, soughtHead, soughtFrom, soughtIn}
+use Rattle.cursor.specs.Checks.{risingEnds, goodRuns, goodPlace, goodFrom, goodPlaces, newCheck, nextCheck}
+use Rattle.cursor.specs.New.{placed, newFrom, newBy, newOf}
+use Rattle.cursor.specs.Next.{fitted, answerBy, placesBy, putIn, putBy, movedBy, nextBy, nextOf, nextKey, nextValue}
+use Rattle.cursor.specs.Pass.{againstLowest, lookBy, lookHead, lookAt, lowestKey, lowestValue, shows, change, passFrom, passOf}
+use Rattle.cursor.specs.Runs.{startOf}
+use Rattle.cursor.specs.Settle.{isHidden, leftAt, sumTo, left, settleFrom, settled}
+use Rattle.cursor.specs.Starred.{liveA, liveB, liveC, deletedA, joined, endsFrom, shownKey, shownValue, placesIn, outcomeOf, outcomesFrom, outcomes, given, expected, call, starred}
+
+pub starred-hold : map outcomes starred ≡ map expected starred
+unfolding word pastBy compareKeys partOf bodyAt headBy headAt soughtBy soughtHead soughtFrom soughtIn risingEnds goodRuns goodPlace goodFrom goodPlaces newCheck nextCheck placed newFrom newBy newOf fitted answerBy placesBy putIn putBy movedBy nextBy nextOf nextKey nextValue againstLowest lookBy lookHead lookAt lowestKey lowestValue shows change passFrom passOf startOf isHidden leftAt sumTo left settleFrom settled liveA liveB liveC deletedA joined endsFrom shownKey shownValue placesIn outcomeOf outcomesFrom outcomes given expected call starred
+starred-hold = refl

@@ -1,0 +1,19 @@
+-- `cursor::check::new_check` meets its contract. Assumes nothing.
+use borrow.Author.Needs.{needs}
+use Rattle.cursor.specs.Checks.{newCheck}
+use Rattle.cursor.proofs.check.new_check.Statement.{statement}
+use Rattle.cursor.proofs.check.new_check.Tie as tie
+
+good-runs-requires : tie.Need-good-runs-requires
+good-runs-requires c κs = search needs
+
+returns : tie.Need-returns
+unfolding newCheck
+returns c = rw (← c .before .good-runs .ensures, c .if1 .taken)
+
+returns-2 : tie.Need-returns-2
+unfolding newCheck
+returns-2 c = rw (← c .before .good-runs .ensures, c .if1 .left)
+
+pub new-check-spec : {M : Type 1} → statement M
+new-check-spec = tie.close (tie.spec good-runs-requires returns returns-2)

@@ -1,0 +1,51 @@
+-- `cursor::place::Cursor::next` meets its contract. Assumes nothing.
+use mathlib.Core.Path.{sym, _∙_}
+use borrow.Author.Needs.{needs}
+use Rattle.cursor.proofs.CallLaws.{next-few, next-refused, next-settled}
+use Rattle.cursor.proofs.place.Cursor.next.Statement.{statement}
+use Rattle.cursor.proofs.place.Cursor.next.Tie as tie
+
+next-check-requires : tie.Need-next-check-requires
+next-check-requires c κs = search needs
+
+enum-known-check : tie.Need-enum-known-check
+enum-known-check c = search needs
+
+returns : tie.Need-returns
+returns c = next-refused _ _ _ _ _ _ _ _ (c .before .before .before .next-check .ensures) _ (c .before .check .given .1)
+
+enum-told : tie.Need-enum-told
+enum-told c = search needs
+
+settle-requires : tie.Need-settle-requires
+settle-requires c κs = next-few _ _ _ (sym (c .before .before .next-check .ensures) ∙ c .enum-told .given .1)
+
+deliver-requires : tie.Need-deliver-requires
+deliver-requires c κs = search needs
+
+places-by-requires : tie.Need-places-by-requires
+places-by-requires c κs = search needs
+
+same-length : tie.Need-same-length
+same-length c = search needs
+
+same-length-2 : tie.Need-same-length-2
+same-length-2 c = search needs
+
+returns-2 : tie.Need-returns-2
+returns-2 c = next-settled _ _ _ _ _ _ _ _ (c .before .before .before .before .before .before .before .before .before .before .before .next-check .ensures) (c .before .before .before .before .before .before .before .before .before .enum-told .given .1) _ (c .before .before .before .before .before .before .before .before .settle .ensures) _ (c .before .before .before .before .before .deliver .ensures .0) _ _ (c .before .before .before .before .before .deliver .ensures .1) _ (c .places-by .ensures)
+
+pub next-spec : {M : Type 1} → statement M
+next-spec =
+    tie.close
+    (tie.spec
+    next-check-requires
+    enum-known-check
+    returns
+    enum-told
+    settle-requires
+    deliver-requires
+    places-by-requires
+    same-length
+    same-length-2
+    returns-2)

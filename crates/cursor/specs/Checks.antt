@@ -1,0 +1,46 @@
+-- The checks before the work (document 01, 'When a box says no'): 10 for the run ends, then 11 for the places.
+-- Assumes nothing.
+use mathlib.Core.Bool.{Bool, true, false, cond, _&&_}
+use mathlib.Core.List.{List, [], _∷_}
+use Prim.Native.Nat.{ℕ, zero, suc, _-_}
+use lib.Dec.{ltb, leb}
+use lib.ListN.{length}
+use Rattle.types.specs.Build.{fileCount}
+use Rattle.types.specs.declared.refusal.Refusal.the-variants.{BadRuns, BadState}
+use Rattle.cursor.specs.Places.{placeOf}
+use Rattle.cursor.specs.Runs.{startOf, endOf}
+use Rattle.cursor.specs.declared.check.Check.{Check}
+use Rattle.cursor.specs.declared.check.Check.the-variants.{Fine, Refused}
+use Rattle.cursor.specs.declared.place.Place.{Place}
+use Rattle.cursor.specs.declared.place.Place.the-variants.{At, Gone}
+use Rattle.cursor.specs.declared.place.RunPlace.{RunPlace}
+
+-- no end falls, and none is past a buffer of so many bytes
+unfoldable pub risingEnds : ℕ → ℕ → List ℕ → Bool
+risingEnds size from [] = true
+risingEnds size from (to ∷ ends) = leb from to && leb to size && risingEnds size to ends
+
+-- and there are no more than so many files
+unfoldable pub goodRuns : ℕ → List ℕ → Bool
+goodRuns size ends = leb (length ends) fileCount && risingEnds size 0 ends
+
+-- a position is within its run, and past the last run there is none
+unfoldable pub goodPlace : List ℕ → ℕ → Place → Bool
+goodPlace ends i Gone = true
+goodPlace ends i (At at) = ltb i (length ends) && leb at (endOf ends i - startOf ends i)
+
+-- so many places from place i on
+unfoldable pub goodFrom : List ℕ → List RunPlace → ℕ → ℕ → Bool
+goodFrom ends places zero i = true
+goodFrom ends places (suc count) i = goodPlace ends i (placeOf places i) && goodFrom ends places count (suc i)
+
+unfoldable pub goodPlaces : List ℕ → List RunPlace → Bool
+goodPlaces ends places = goodFrom ends places fileCount 0
+
+-- what is refused before a cursor is made
+unfoldable pub newCheck : ℕ → List ℕ → Check
+newCheck size ends = cond (goodRuns size ends) Fine (Refused BadRuns)
+
+-- and before an entry is looked for
+unfoldable pub nextCheck : ℕ → List ℕ → List RunPlace → Check
+nextCheck size ends places = cond (goodRuns size ends) (cond (goodPlaces ends places) Fine (Refused BadState)) (Refused BadRuns)

@@ -1,0 +1,9 @@
+pub mod Answers
+pub mod Checks
+pub mod New
+pub mod Next
+pub mod Pass
+pub mod Places
+pub mod Runs
+pub mod Settle
+pub mod Starred

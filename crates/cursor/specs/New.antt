@@ -1,0 +1,40 @@
+-- A cursor over all runs from a lower bound (document 01, 'Runs and merge'). A refused one has every run gone. Assumes
+-- nothing.
+use mathlib.Core.List.{List}
+use Prim.Native.Nat.{ℕ, zero, suc}
+use lib.ListN.{length, set}
+use Rattle.types.specs.declared.refusal.Refusal.{Refusal}
+use Rattle.run.specs.Search.{soughtIn}
+use Rattle.run.specs.declared.bound.Bound.{Bound}
+use Rattle.run.specs.declared.search.Sought.{Sought}
+use Rattle.run.specs.declared.search.Sought.the-variants as sought
+use Rattle.cursor.specs.Checks.{newCheck}
+use Rattle.cursor.specs.Places.{atPlace, allGone}
+use Rattle.cursor.specs.Runs.{runOf}
+use Rattle.cursor.specs.declared.answer.NewAnswer.the-variants.{Ready, Refused}
+use Rattle.cursor.specs.declared.answer.NewCursor.{NewCursor}
+use Rattle.cursor.specs.declared.check.Check.{Check}
+use Rattle.cursor.specs.declared.check.Check.the-variants as check
+use Rattle.cursor.specs.declared.place.RunPlace.{RunPlace}
+
+abbrev pub refusedNew : Refusal → NewCursor
+refusedNew why = record { cursor = record { places = allGone }; answer = Refused why }
+
+-- what run i's search changes, with the searches of the later runs at hand
+unfoldable pub placed : Sought → ℕ → List RunPlace → (List RunPlace → NewCursor) → NewCursor
+placed sought.Gone i places later = later places
+placed (sought.At at) i places later = later (set places i (atPlace at))
+placed (sought.Refused why) i places later = refusedNew why
+
+-- so many runs from run i on, in list order
+unfoldable pub newFrom : List ℕ → List ℕ → Bound → List ℕ → ℕ → ℕ → List RunPlace → NewCursor
+newFrom bytes ends bound lower zero i places = record { cursor = record { places = places }; answer = Ready }
+newFrom bytes ends bound lower (suc count) i places =
+    placed (soughtIn (runOf bytes ends i) bound lower) i places (λ p. newFrom bytes ends bound lower count (suc i) p)
+
+unfoldable pub newBy : Check → List ℕ → List ℕ → Bound → List ℕ → NewCursor
+newBy check.Fine bytes ends bound lower = newFrom bytes ends bound lower (length ends) 0 allGone
+newBy (check.Refused why) bytes ends bound lower = refusedNew why
+
+unfoldable pub newOf : List ℕ → List ℕ → Bound → List ℕ → NewCursor
+newOf bytes ends bound lower = newBy (newCheck (length bytes) ends) bytes ends bound lower

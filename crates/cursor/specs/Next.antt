@@ -1,0 +1,80 @@
+-- The next entry of the merge (document 01, 'Runs and merge', 'When a box says no'): its answer, the cursor after it, and
+-- the two lent buffers. Assumes nothing.
+use mathlib.Core.Bool.{cond}
+use mathlib.Core.List.{List, [], _++_}
+use Prim.Native.Nat.{ℕ}
+use lib.Dec.{ltb}
+use lib.ListN.{length, drop}
+use Rattle.types.specs.declared.refusal.Refusal.the-variants.{KeyBufferTooSmall, ValueBufferTooSmall}
+use Rattle.run.specs.declared.bound.Bound.{Bound}
+use Rattle.cursor.specs.Checks.{nextCheck}
+use Rattle.cursor.specs.Pass.{lowestKey, lowestValue}
+use Rattle.cursor.specs.Settle.{settled}
+use Rattle.cursor.specs.declared.answer.Moved.{Moved}
+use Rattle.cursor.specs.declared.answer.NextAnswer.{NextAnswer}
+use Rattle.cursor.specs.declared.answer.NextAnswer.the-variants.{End, Entry, Refused}
+use Rattle.cursor.specs.declared.check.Check.{Check}
+use Rattle.cursor.specs.declared.check.Check.the-variants as check
+use Rattle.cursor.specs.declared.look.Lowest.{Lowest}
+use Rattle.cursor.specs.declared.look.Lowest.the-variants as low
+use Rattle.cursor.specs.declared.pass.Pass.{Pass}
+use Rattle.cursor.specs.declared.place.Cursor.{Cursor}
+use Rattle.cursor.specs.declared.place.RunPlace.{RunPlace}
+
+-- ---- what a settled pass answers
+
+-- 2 where the key has no room, then 3 where the value has none
+unfoldable pub fitted : ℕ → ℕ → ℕ → ℕ → NextAnswer
+fitted keyRoom valueRoom keyLen valueLen =
+    cond (ltb keyRoom keyLen) (Refused KeyBufferTooSmall)
+    (cond (ltb valueRoom valueLen) (Refused ValueBufferTooSmall) (Entry keyLen valueLen))
+
+unfoldable pub answerBy : Lowest → ℕ → ℕ → ℕ → ℕ → NextAnswer
+answerBy low.None keyRoom valueRoom keyLen valueLen = End
+answerBy (low.Found run r) keyRoom valueRoom keyLen valueLen = fitted keyRoom valueRoom keyLen valueLen
+answerBy (low.Refused why) keyRoom valueRoom keyLen valueLen = Refused why
+
+abbrev pub answerTo : List ℕ → List ℕ → Lowest → ℕ → ℕ → NextAnswer
+answerTo bytes ends lowest keyRoom valueRoom =
+    answerBy lowest keyRoom valueRoom (length (lowestKey bytes ends lowest)) (length (lowestValue bytes ends lowest))
+
+-- only an entry steps its holders on
+unfoldable pub placesBy : NextAnswer → Pass → List RunPlace
+placesBy End p = p .places
+placesBy (Entry keyLen valueLen) p = p .stepped
+placesBy (Refused why) p = p .places
+
+-- bytes at a buffer's start, the rest staying
+unfoldable pub putIn : List ℕ → List ℕ → List ℕ
+putIn bytes buffer = bytes ++ drop (length bytes) buffer
+
+-- only an entry is put into a buffer
+unfoldable pub putBy : NextAnswer → List ℕ → List ℕ → List ℕ
+putBy End bytes buffer = buffer
+putBy (Entry keyLen valueLen) bytes buffer = putIn bytes buffer
+putBy (Refused why) bytes buffer = buffer
+
+-- ---- the call
+
+unfoldable pub movedBy : NextAnswer → Pass → Moved
+movedBy answer p = record { cursor = record { places = placesBy answer p }; answer = answer }
+
+unfoldable pub nextBy : Check → List ℕ → List ℕ → Pass → ℕ → ℕ → Cursor → Moved
+nextBy check.Fine bytes ends p keyRoom valueRoom c = movedBy (answerTo bytes ends (p .lowest) keyRoom valueRoom) p
+nextBy (check.Refused why) bytes ends p keyRoom valueRoom c = record { cursor = c; answer = Refused why }
+
+-- the answer and the cursor, for buffers of so many bytes
+unfoldable pub nextOf : List ℕ → List ℕ → Bound → List ℕ → Cursor → ℕ → ℕ → Moved
+nextOf bytes ends bound upper c keyRoom valueRoom =
+    nextBy (nextCheck (length bytes) ends (c .places)) bytes ends (settled bytes ends bound upper (c .places)) keyRoom valueRoom c
+
+-- the key buffer and the value buffer
+unfoldable pub nextKey : List ℕ → List ℕ → Bound → List ℕ → Cursor → List ℕ → List ℕ → List ℕ
+nextKey bytes ends bound upper c key value =
+    putBy (nextOf bytes ends bound upper c (length key) (length value) .answer)
+    (lowestKey bytes ends (settled bytes ends bound upper (c .places) .lowest)) key
+
+unfoldable pub nextValue : List ℕ → List ℕ → Bound → List ℕ → Cursor → List ℕ → List ℕ → List ℕ
+nextValue bytes ends bound upper c key value =
+    putBy (nextOf bytes ends bound upper c (length key) (length value) .answer)
+    (lowestValue bytes ends (settled bytes ends bound upper (c .places) .lowest)) value

@@ -1,0 +1,9 @@
+// The merge over all runs: a cursor from a lower bound, and the next entry under an upper bound.
+pub mod answer;
+pub mod check;
+pub mod deliver;
+pub mod look;
+pub mod merge;
+pub mod pass;
+pub mod place;
+pub mod runs;
