@@ -1,6 +1,6 @@
 -- The first free page of a search, by its place in the order, and that order by numbers. Assumes nothing.
 use mathlib.Core.Path.{_≡_, refl, sym, ap, _∙_}
-use mathlib.Core.Bool.{Bool, true, false, cond, false≢true}
+use mathlib.Core.Bool.{Bool, true, false}
 use mathlib.Core.List.{List, [], _∷_, _++_}
 use mathlib.Core.Logic.{⊎-elim}
 use Prim.Native.Nat.{ℕ, zero, suc, _+_, _-_, _%_, _≤_, _<_}
@@ -9,7 +9,6 @@ use native.Mathlib.Omega.{arith}
 use lib.ListN.{length, getD, length-append, List·getD-append}
 use lib.Seq.{getD-append-add}
 use Rattle.types.specs.declared.page_id.PageID.{PageID}
-use Rattle.types.specs.declared.page_id.MaybePageID.{MaybePageID}
 use Rattle.types.specs.declared.page_id.MaybePageID.the-variants.{None, Some}
 use Rattle.types.proofs.TestLaws.{decided, le-or-lt}
 use Rattle.alloc.specs.Search.{upFrom, roundFrom, firstFree}

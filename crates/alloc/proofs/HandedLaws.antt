@@ -8,10 +8,11 @@ use lib.Seq.{getD-set-same, getD-set-other}
 use Rattle.types.specs.declared.page_id.PageID.{PageID}
 use Rattle.types.specs.declared.page_id.MaybePageID.{MaybePageID}
 use Rattle.types.specs.declared.page_id.MaybePageID.the-variants as maybe
-use Rattle.alloc.specs.Calls.{found, tryAllocate, handingOut, allocationAfter, marked, movedPast}
+use Rattle.alloc.specs.Calls.{found, tryAllocate, handingOut, allocationAfter}
+use Rattle.alloc.specs.Checks.{stateCheck}
 use Rattle.alloc.specs.Marks.{marksOf, isMarked, marking}
 use Rattle.alloc.specs.Search.{roundFrom}
-use Rattle.alloc.specs.State.{Sized, stateCheck}
+use Rattle.alloc.specs.State.{marked, movedPast, Sized}
 use Rattle.alloc.specs.declared.allocator.Allocator.{Allocator}
 use Rattle.alloc.specs.declared.answers.Allocated.the-variants.{Page}
 use Rattle.alloc.specs.declared.check.Check.{Check}

@@ -1,7 +1,14 @@
 pub mod CountLaws
 pub mod FirstLaws
+pub mod FreedLaws
 pub mod HandedLaws
+pub mod KeptLaws
 pub mod MarginLaws
 pub mod MarksLaws
+pub mod NoneLaws
+pub mod RefusedLaws
+pub mod RoundLaws
+pub mod RowsHold
 pub mod SearchLaws
 pub mod StateLaws
+pub mod TurnLaws

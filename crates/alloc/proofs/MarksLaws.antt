@@ -10,12 +10,10 @@ use native.Mathlib.Omega.{arith}
 use lib.Arith.{lt-one}
 use lib.Count.{ones, ones-step}
 use lib.Dec.{eqb, lit<}
-use lib.ListN.{length, getD, set, drop, length-append, List·getD-append}
+use lib.ListN.{length, getD, set, take, drop, take-append-drop, length-append, List·getD-append}
 use lib.Pow.{shr-shr, shl-exact}
-use lib.Seq.{getD-append-add, set-append-left, drop-append-le, drop-append-add, drop-nil}
+use lib.Seq.{getD-append-add, set-append-left}
 use borrow.Author.Tests.{eqb-true, eqb-false, eq-eqb, ne-eqb}
-use Rattle.types.specs.Bytes.{Bytes}
-use Rattle.types.proofs.BytesLaws.{bytes-first, bytes-tail}
 use Rattle.types.proofs.TestLaws.{decided, le-or-lt}
 use Rattle.alloc.specs.Marks.{bitsOf, marksOf, isMarked, countOf, marking, freeing}
 
@@ -94,6 +92,9 @@ pub countOf-append : (xs ys : List Bool) → countOf (xs ++ ys) ≡ countOf xs +
 unfolding countOf
 countOf-append [] ys = omega arith
 countOf-append (x ∷ xs) ys = rw (countOf-append xs ys) (omega arith)
+
+pub countOf-split : (n : ℕ) (xs : List Bool) → countOf (take n xs) + countOf (drop n xs) ≡ countOf xs
+countOf-split n xs = sym (countOf-append (take n xs) (drop n xs)) ∙ ap countOf (take-append-drop n xs)
 
 pub countOf-le : (xs : List Bool) → countOf xs ≤ length xs
 unfolding countOf

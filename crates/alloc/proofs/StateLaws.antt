@@ -1,11 +1,11 @@
 -- What the checks say, as facts. Assumes nothing.
-use mathlib.Core.Path.{_≡_, refl, sym, _∙_}
+use mathlib.Core.Path.{_≡_, refl}
 use mathlib.Core.Bool.{Bool, true, false, _&&_, _||_, cond}
 use mathlib.Core.Logic.{_⊎_, inl, inr, ⊎-elim}
-use Prim.Native.Nat.{ℕ, _+_, _≤_, _<_}
+use Prim.Native.Nat.{ℕ, _≤_, _<_}
 use native.Mathlib.Omega.{arith}
 use lib.Dec.{ltb, leb, eqb}
-use lib.ListN.{length, take, drop, take-append-drop, length-take}
+use lib.ListN.{length, take, drop, length-take}
 use borrow.Author.Tests.{ltb-true, leb-true, eqb-true, lt-ltb, le-leb, eq-eqb}
 use Rattle.types.specs.Build.{maxPageCount}
 use Rattle.types.specs.declared.page_id.PageID.{PageID}
@@ -13,11 +13,12 @@ use Rattle.types.specs.declared.refusal.Refusal.{Refusal}
 use Rattle.types.specs.declared.refusal.Refusal.the-variants.{OutOfRange, BadCount, BadState}
 use Rattle.types.proofs.TestLaws.{both-true}
 use Rattle.alloc.specs.Marks.{marksOf, isMarked, countOf}
-use Rattle.alloc.specs.State.{nextFits, inRange, stateCheck, pageCheck, wantedCheck, countCheck}
+use Rattle.alloc.specs.Checks.{stateCheck, pageCheck, wantedCheck, countCheck}
+use Rattle.alloc.specs.State.{Sized, nextFits, inRange}
 use Rattle.alloc.specs.declared.allocator.Allocator.{Allocator}
 use Rattle.alloc.specs.declared.check.Check.{Check}
 use Rattle.alloc.specs.declared.check.Check.the-variants.{Fine, Refused}
-use Rattle.alloc.proofs.MarksLaws.{countOf-append, countOf-le, countOf-free}
+use Rattle.alloc.proofs.MarksLaws.{countOf-split, countOf-le, countOf-free}
 
 -- ---- the range
 
@@ -27,6 +28,10 @@ pub record InRange (a : Allocator) : Type 0 where
   pub next : (a .«next_page_id» < a .«page_count») ⊎ ((a .«page_count» ≡ 0) × (a .«next_page_id» ≡ 0))
   pub counted : a .used ≡ countOf (marksOf (a .pages))
   pub above : countOf (drop (a .«page_count») (marksOf (a .pages))) ≡ 0
+
+-- a value of the type that is in range
+abbrev pub Sound : Allocator → Type 0
+Sound a = Sized a × InRange a
 
 next-says : (next count : ℕ) → nextFits next count ≡ true → (next < count) ⊎ ((count ≡ 0) × (next ≡ 0))
 next-says next count h = either (ltb next count) (eqb count 0 && eqb next 0) (ltb-true next count) zeros h
@@ -65,10 +70,9 @@ pub used-le : (a : Allocator) → InRange a → a .used ≤ a .«page_count»
 used-le a r =
     let ms = marksOf (a .pages) in
     let n = a .«page_count» in
-    let e : countOf (take n ms) + countOf (drop n ms) ≡ countOf ms = sym (countOf-append (take n ms) (drop n ms)) ∙ rw (take-append-drop n ms) in
     let l : countOf (take n ms) ≤ length (take n ms) = countOf-le (take n ms) in
     let m : length (take n ms) ≤ n = rw (length-take n ms) (omega arith) in
-    omega (arith, r .counted, r .above)
+    omega (arith, countOf-split n ms, r .counted, r .above)
 
 pub next-le : (a : Allocator) → InRange a → a .«next_page_id» ≤ a .«page_count»
 next-le a r = ⊎-elim (λ h. omega arith) (λ h. omega arith) (r .next)

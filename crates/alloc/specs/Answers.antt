@@ -15,6 +15,7 @@ use Rattle.alloc.specs.declared.answers.Outcome.the-variants as outcome
 use Rattle.alloc.specs.declared.answers.Usage.{Usage}
 use Rattle.alloc.specs.declared.answers.Usage.the-variants as usage
 
+-- an answer
 pub record Told : Type 0 where
   pub number : ℕ
   pub values : List ℤ

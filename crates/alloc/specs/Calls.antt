@@ -1,17 +1,16 @@
 -- What each call answers and leaves (document 01, part 3): the refusal of its check, with the allocator as it was, or its work.
 -- Assumes nothing.
 use mathlib.Core.Bool.{cond}
-use Prim.Native.Nat.{ℕ, _+_, _-_, _%_, _/_}
+use Prim.Native.Nat.{ℕ, _-_, _%_}
 use lib.IntN.{pos, _-ℤ_}
-use lib.ListN.{replicate}
-use Rattle.types.specs.Build.{maxPageCount}
 use Rattle.types.specs.declared.page_id.PageID.{PageID}
 use Rattle.types.specs.declared.page_id.MaybePageID.{MaybePageID}
 use Rattle.types.specs.declared.page_id.MaybePageID.the-variants.{None, Some}
 use Rattle.types.specs.declared.refusal.Refusal.the-variants.{Corrupted}
-use Rattle.alloc.specs.Marks.{marksOf, isMarked, marking, freeing}
+use Rattle.alloc.specs.Checks.{stateCheck, pageCheck, wantedCheck, countCheck}
+use Rattle.alloc.specs.Marks.{marksOf, isMarked}
 use Rattle.alloc.specs.Search.{roundFrom, firstFree}
-use Rattle.alloc.specs.State.{stateCheck, pageCheck, wantedCheck, countCheck}
+use Rattle.alloc.specs.State.{allFree, marked, freed, movedPast}
 use Rattle.alloc.specs.declared.allocator.Allocator.{Allocator}
 use Rattle.alloc.specs.declared.answers.Allocated.the-variants as allocated
 use Rattle.alloc.specs.declared.answers.Allocation.{Allocation}
@@ -26,26 +25,6 @@ use Rattle.alloc.specs.declared.answers.Usage.the-variants as usage
 use Rattle.alloc.specs.declared.check.Check.{Check}
 use Rattle.alloc.specs.declared.check.Check.the-variants.{Fine, Refused}
 
--- ---- states
-
--- count pages, all of them free
-abbrev pub allFree : ℕ → ℕ → Allocator
-allFree count next = record { «page_count» = count; pages = replicate (maxPageCount / 8) 0; used = 0; «next_page_id» = next }
-
--- page p is marked, and counted
-abbrev pub marked : Allocator → ℕ → Allocator
-marked a p =
-    record { «page_count» = a .«page_count»; pages = marking (a .pages) p; used = a .used + 1; «next_page_id» = a .«next_page_id» }
-
--- page p is free again
-abbrev pub freed : Allocator → ℕ → Allocator
-freed a p =
-    record { «page_count» = a .«page_count»; pages = freeing (a .pages) p; used = a .used - 1; «next_page_id» = a .«next_page_id» }
-
--- the next search starts past page p, round
-abbrev pub movedPast : Allocator → ℕ → Allocator
-movedPast a p = record { «page_count» = a .«page_count»; pages = a .pages; used = a .used; «next_page_id» = (p + 1) % a .«page_count» }
-
 -- ---- calls that change the allocator
 
 -- done, with this allocator
@@ -56,6 +35,7 @@ done a = record { answer = outcome.Done; allocator = a }
 abbrev pub corrupted : Allocator → Change
 corrupted a = record { answer = outcome.Refused Corrupted; allocator = a }
 
+-- what the check refuses, or the work
 abbrev pub changeAfter : Check → Allocator → Change → Change
 changeAfter (Refused why) a work = record { answer = outcome.Refused why; allocator = a }
 changeAfter Fine a work = work
@@ -81,6 +61,7 @@ abbrev pub handingOut : Allocator → MaybePageID → Allocation
 handingOut a None = record { answer = allocated.None; allocator = a }
 handingOut a (Some page) = record { answer = allocated.Page page; allocator = movedPast (marked a (page .0)) (page .0) }
 
+-- what the check refuses, or the work
 abbrev pub allocationAfter : Check → Allocator → Allocation → Allocation
 allocationAfter (Refused why) a work = record { answer = allocated.Refused why; allocator = a }
 allocationAfter Fine a work = work
@@ -91,6 +72,7 @@ tryAllocate a = allocationAfter (stateCheck a) a (handingOut a (found a))
 
 -- ---- calls that read it
 
+-- what the check refuses, or the work
 abbrev pub usageAfter : Check → Usage → Usage
 usageAfter (Refused why) work = usage.Refused why
 usageAfter Fine work = work
@@ -99,6 +81,7 @@ usageAfter Fine work = work
 unfoldable pub isUsed : Allocator → PageID → Usage
 isUsed a page = usageAfter (pageCheck a page) (cond (isMarked (a .pages) (page .0)) usage.Used usage.Free)
 
+-- what the check refuses, or the number
 abbrev pub countAfter : Check → ℕ → Count
 countAfter (Refused why) n = count.Refused why
 countAfter Fine n = count.Pages n
@@ -113,6 +96,7 @@ freePages a = countAfter (stateCheck a) (a .«page_count» - a .used)
 unfoldable pub pageCount : Allocator → Count
 pageCount a = countAfter (stateCheck a) (a .«page_count»)
 
+-- what the check refuses, or the work
 abbrev pub marginAfter : Check → Margin → Margin
 marginAfter (Refused why) work = margin.Refused why
 marginAfter Fine work = work

@@ -1,16 +1,14 @@
--- The range of an allocator, and the checks before a call's work (document 01, 'When a box says no'). Assumes nothing.
+-- The allocator's state: its range (document 01, 'When a box says no'), and the states that calls leave. Assumes nothing.
 use mathlib.Core.Path.{_≡_}
-use mathlib.Core.Bool.{Bool, _&&_, _||_, cond}
-use Prim.Native.Nat.{ℕ, _/_}
+use mathlib.Core.Bool.{Bool, _&&_, _||_}
+use Prim.Native.Nat.{ℕ, _+_, _-_, _/_, _%_}
 use lib.Dec.{ltb, leb, eqb}
-use lib.ListN.{length, drop}
+use lib.ListN.{length, drop, replicate}
 use Rattle.types.specs.Build.{maxPageCount}
-use Rattle.types.specs.declared.page_id.PageID.{PageID}
-use Rattle.types.specs.declared.refusal.Refusal.the-variants.{OutOfRange, BadCount, BadState}
-use Rattle.alloc.specs.Marks.{marksOf, countOf}
+use Rattle.alloc.specs.Marks.{marksOf, countOf, marking, freeing}
 use Rattle.alloc.specs.declared.allocator.Allocator.{Allocator}
-use Rattle.alloc.specs.declared.check.Check.{Check}
-use Rattle.alloc.specs.declared.check.Check.the-variants.{Fine, Refused}
+
+-- ---- range
 
 -- as every value of the type is: its marks are 32 bytes
 abbrev pub Sized : Allocator → Type 0
@@ -28,18 +26,22 @@ inRange a =
     && eqb (a .used) (countOf (marksOf (a .pages)))
     && eqb (countOf (drop (a .«page_count») (marksOf (a .pages)))) 0
 
--- 11, of every call that takes a state but reset
-unfoldable pub stateCheck : Allocator → Check
-stateCheck a = cond (inRange a) Fine (Refused BadState)
+-- ---- states
 
--- 11, then 4, of a call that is given a page
-unfoldable pub pageCheck : Allocator → PageID → Check
-pageCheck a page = cond (inRange a) (cond (ltb (page .0) (a .«page_count»)) Fine (Refused OutOfRange)) (Refused BadState)
+-- count pages, all of them free
+abbrev pub allFree : ℕ → ℕ → Allocator
+allFree count next = record { «page_count» = count; pages = replicate (maxPageCount / 8) 0; used = 0; «next_page_id» = next }
 
--- 7, then 11, of margin
-unfoldable pub wantedCheck : Allocator → ℕ → Check
-wantedCheck a wanted = cond (leb wanted maxPageCount) (cond (inRange a) Fine (Refused BadState)) (Refused BadCount)
+-- page p is marked, and counted
+abbrev pub marked : Allocator → ℕ → Allocator
+marked a p =
+    record { «page_count» = a .«page_count»; pages = marking (a .pages) p; used = a .used + 1; «next_page_id» = a .«next_page_id» }
 
--- 7, of reset
-unfoldable pub countCheck : ℕ → Check
-countCheck count = cond (leb 1 count && leb count maxPageCount) Fine (Refused BadCount)
+-- page p is free again
+abbrev pub freed : Allocator → ℕ → Allocator
+freed a p =
+    record { «page_count» = a .«page_count»; pages = freeing (a .pages) p; used = a .used - 1; «next_page_id» = a .«next_page_id» }
+
+-- the next search starts past page p, round
+abbrev pub movedPast : Allocator → ℕ → Allocator
+movedPast a p = record { «page_count» = a .«page_count»; pages = a .pages; used = a .used; «next_page_id» = (p + 1) % a .«page_count» }

@@ -1,6 +1,7 @@
 // The allocator (alloc.rs), by value. Pages are handed out in turn, which spreads the wear.
 ghost use mathlib.Core.Path.{_≡_};
-ghost use Rattle.alloc.specs.Calls.{allFree, reset, markUsed, free, tryAllocate, isUsed, usedPages, freePages, pageCount, marginOf};
+ghost use Rattle.alloc.specs.Calls.{reset, markUsed, free, tryAllocate, isUsed, usedPages, freePages, pageCount, marginOf};
+ghost use Rattle.alloc.specs.State.{allFree};
 use super::answers::Allocated;
 use super::answers::Allocation;
 use super::answers::Change;
@@ -11,15 +12,20 @@ use super::answers::Usage;
 use super::check;
 use super::check::Check;
 use super::marks;
-use super::marks::MARK_BYTES;
+use super::state;
+use types::config::MAX_PAGE_COUNT;
 use types::page_id::MaybePageID;
 use types::page_id::PageID;
 use types::refusal::Refusal;
 
+// Eight pages to a byte.
+pub const MARK_BYTES: usize = (MAX_PAGE_COUNT + 7) / 8;
+
 pub struct Allocator {
     pub page_count: usize,
-    // A bit for each page that is used.
+    // A bit for each page, 1 where it is used.
     pub pages: [u8; MARK_BYTES],
+    // How many are used.
     pub used: usize,
     // Where the next search starts.
     pub next_page_id: usize,
@@ -68,9 +74,9 @@ impl Allocator {
                 allocator: self,
             };
         }
-        let count = self.page_count;
         let pages = self.pages;
-        let MaybePageID::Some(page) = marks::first_free(pages, self.next_page_id, count) else {
+        let MaybePageID::Some(page) = marks::first_free(pages, self.next_page_id, self.page_count)
+        else {
             return Allocation {
                 answer: Allocated::None,
                 allocator: self,
@@ -79,12 +85,7 @@ impl Allocator {
         let p = page.index();
         Allocation {
             answer: Allocated::Page(page),
-            allocator: Allocator {
-                page_count: count,
-                pages: marks::mark(pages, p),
-                used: self.used + 1,
-                next_page_id: marks::past(p, count),
-            },
+            allocator: state::moved_past(state::marked(self, p), p),
         }
     }
 
@@ -107,12 +108,7 @@ impl Allocator {
         }
         Change {
             answer: Outcome::Done,
-            allocator: Allocator {
-                page_count: self.page_count,
-                pages: marks::mark(pages, p),
-                used: self.used + 1,
-                next_page_id: self.next_page_id,
-            },
+            allocator: state::marked(self, p),
         }
     }
 
@@ -135,12 +131,7 @@ impl Allocator {
         }
         Change {
             answer: Outcome::Done,
-            allocator: Allocator {
-                page_count: self.page_count,
-                pages: marks::unmark(pages, p),
-                used: self.used - 1,
-                next_page_id: self.next_page_id,
-            },
+            allocator: state::freed(self, p),
         }
     }
 

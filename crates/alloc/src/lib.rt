@@ -1,5 +1,6 @@
 // The page allocator (alloc.rs; document 01, part 3): which pages are used, and which one is looked at next.
 pub mod allocator;
 pub mod answers;
-mod check;
+pub mod check;
 mod marks;
+mod state;

@@ -1,17 +1,15 @@
 // The marks: a bit for each page, eight to a byte, the first in the lowest bit (alloc.rs, get_bit and set_bit); and the search over them.
 ghost use mathlib.Core.Path.{_≡_};
 ghost use mathlib.Core.Bool.{true, false};
-ghost use Prim.Native.Nat.{_+_, _-_, _%_, _≤_, _<_};
+ghost use Prim.Native.Nat.{_-_, _≤_, _<_};
 ghost use lib.Dec.{eqb};
 ghost use lib.ListN.{drop};
 ghost use Rattle.types.specs.Build.{maxPageCount};
 ghost use Rattle.alloc.specs.Marks.{marksOf, isMarked, countOf, marking, freeing};
 ghost use Rattle.alloc.specs.Search.{upFrom, roundFrom, firstFree};
-use types::config::MAX_PAGE_COUNT;
+use super::allocator::MARK_BYTES;
 use types::page_id::MaybePageID;
 use types::page_id::PageID;
-
-pub(crate) const MARK_BYTES: usize = (MAX_PAGE_COUNT + 7) / 8;
 
 pub(crate) fn is_marked(pages: [u8; MARK_BYTES], page: usize) -> bool
     requires { ⌜ page < maxPageCount ⌝ }
@@ -75,15 +73,6 @@ pub(crate) fn first_free(pages: [u8; MARK_BYTES], next: usize, count: usize) -> 
         MaybePageID::Some(page) => MaybePageID::Some(page),
         MaybePageID::None => free_between(pages, 0, next),
     }
-}
-
-// The page after one, round.
-pub(crate) fn past(page: usize, count: usize) -> usize
-    requires { ⌜ page < count ⌝ }
-    ensures answers { λ r. ⌜ r ≡ (page + 1) % count ⌝ }
-{
-    let next = page + 1;
-    if next == count { 0 } else { next }
 }
 
 pub(crate) fn mark(pages: [u8; MARK_BYTES], page: usize) -> [u8; MARK_BYTES]

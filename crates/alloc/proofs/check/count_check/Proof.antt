@@ -1,5 +1,5 @@
 -- `alloc::check::count_check` meets its contract. Assumes nothing.
-use Rattle.alloc.specs.State.{countCheck}
+use Rattle.alloc.specs.Checks.{countCheck}
 use Rattle.alloc.proofs.check.count_check.Statement.{statement}
 use Rattle.alloc.proofs.check.count_check.Tie as tie
 

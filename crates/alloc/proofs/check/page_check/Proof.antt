@@ -4,7 +4,8 @@ use mathlib.Core.Bool.{true}
 use Prim.Native.Nat.{_<_, _≤_}
 use native.Mathlib.Omega.{arith}
 use borrow.Author.Tests.{not-true, not-false, lt-ltb, le-ltb}
-use Rattle.alloc.specs.State.{inRange, pageCheck}
+use Rattle.alloc.specs.Checks.{pageCheck}
+use Rattle.alloc.specs.State.{inRange}
 use borrow.Author.Needs.{needs}
 use Rattle.alloc.proofs.check.page_check.Statement.{statement}
 use Rattle.alloc.proofs.check.page_check.Tie as tie

@@ -1,6 +1,6 @@
 -- `alloc::check::state_check` meets its contract. Assumes nothing.
 use mathlib.Core.Path.{sym, _∙_}
-use Rattle.alloc.specs.State.{stateCheck}
+use Rattle.alloc.specs.Checks.{stateCheck}
 use borrow.Author.Needs.{needs}
 use Rattle.alloc.proofs.check.state_check.Statement.{statement}
 use Rattle.alloc.proofs.check.state_check.Tie as tie

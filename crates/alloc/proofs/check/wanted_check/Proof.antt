@@ -1,6 +1,6 @@
 -- `alloc::check::wanted_check` meets its contract. Assumes nothing.
 use borrow.Author.Tests.{le-leb, lt-leb}
-use Rattle.alloc.specs.State.{stateCheck, wantedCheck}
+use Rattle.alloc.specs.Checks.{stateCheck, wantedCheck}
 use borrow.Author.Needs.{needs}
 use Rattle.alloc.proofs.check.wanted_check.Statement.{statement}
 use Rattle.alloc.proofs.check.wanted_check.Tie as tie

@@ -1,10 +1,8 @@
 -- `alloc::marks::free_between` meets its contract: what is left to look at has the same first free page as the whole. Assumes nothing.
 use mathlib.Core.Path.{_≡_, refl, sym, _∙_}
-use Prim.Native.Nat.{_+_, _-_, _*_, _≤_, _<_}
+use Prim.Native.Nat.{_-_}
 use native.Mathlib.Numerals.{add-one}
 use native.Mathlib.Omega.{arith}
-use lib.ListN.{length, getD}
-use borrow.Author.Needs.{needs}
 use Rattle.alloc.specs.Marks.{marksOf}
 use Rattle.alloc.specs.Search.{upFrom, firstFree}
 use Rattle.alloc.proofs.SearchLaws.{search-end, search-free, search-used, search-byte, bit-free, bit-used}

@@ -7,8 +7,8 @@ use borrow.Author.Tests.{not-true, not-false}
 use Rattle.types.specs.Build.{maxPageCount}
 use Rattle.types.specs.declared.page_id.PageID.{PageID}
 use Rattle.alloc.specs.Calls.{free}
+use Rattle.alloc.specs.Checks.{pageCheck}
 use Rattle.alloc.specs.Marks.{isMarked}
-use Rattle.alloc.specs.State.{pageCheck}
 use Rattle.alloc.specs.declared.allocator.Allocator.{Allocator}
 use Rattle.alloc.specs.declared.check.Check.the-variants.{Fine}
 use Rattle.alloc.proofs.StateLaws.{fine-page, page-below, used-pos}
@@ -56,20 +56,17 @@ returns-2 c =
 used-here : (c : tie.Else1) → isMarked (self (c .before .before .before .before) .pages) (c .before .before .before .index .result) ≡ true
 used-here c = sym (c .before .is-marked .ensures) ∙ not-false _ (c .if1 .left)
 
-unmark-requires : tie.Need-unmark-requires
-unmark-requires c κs = (below (c .before .before .before), used-here c)
-
-sub-t14 : tie.Need-sub-t14
-sub-t14 c =
-    let b = c .before .before .before .before .before in
-    let s = self (b .before) in
-    used-pos s (b .index .result) (fine-page s (page (b .before)) (fine (b .before)) .0) (used-here (c .before .before))
+freed-requires : tie.Need-freed-requires
+freed-requires c κs =
+    let b = c .before .before .before in
+    let a = self (b .before) in
+    (below b, (used-here c, used-pos a (b .index .result) (fine-page a (page (b .before)) (fine (b .before)) .0) (used-here c)))
 
 returns-3 : tie.Need-returns-3
 unfolding free
 returns-3 c =
-    let b = c .before .before .before .before .before in
-    rw (fine (b .before), ← b .index .ensures, used-here (c .before .before), c .before .unmark .ensures)
+    let b = c .before .before .before .before in
+    rw (fine (b .before), ← b .index .ensures, used-here (c .before), c .freed .ensures)
 
 pub free-spec : {M : Type 1} → statement M
 free-spec =
@@ -82,6 +79,5 @@ free-spec =
     index-requires
     is-marked-requires
     returns-2
-    unmark-requires
-    sub-t14
+    freed-requires
     returns-3)

@@ -3,7 +3,7 @@ use mathlib.Core.Path.{_≡_, sym, _∙_}
 use borrow.Author.Needs.{needs}
 use Rattle.types.specs.declared.page_id.PageID.{PageID}
 use Rattle.alloc.specs.Calls.{isUsed}
-use Rattle.alloc.specs.State.{pageCheck}
+use Rattle.alloc.specs.Checks.{pageCheck}
 use Rattle.alloc.specs.declared.allocator.Allocator.{Allocator}
 use Rattle.alloc.specs.declared.check.Check.the-variants.{Fine}
 use Rattle.alloc.proofs.StateLaws.{page-below}

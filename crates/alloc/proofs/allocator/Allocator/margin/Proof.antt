@@ -5,7 +5,7 @@ use native.Mathlib.Omega.{arith}
 use borrow.Author.Needs.{needs}
 use Rattle.types.specs.Build.{maxPageCount}
 use Rattle.alloc.specs.Calls.{marginOf}
-use Rattle.alloc.specs.State.{wantedCheck}
+use Rattle.alloc.specs.Checks.{wantedCheck}
 use Rattle.alloc.specs.declared.allocator.Allocator.{Allocator}
 use Rattle.alloc.specs.declared.check.Check.the-variants.{Fine}
 use Rattle.alloc.proofs.MarginLaws.{small, margin-fits, margin-read}

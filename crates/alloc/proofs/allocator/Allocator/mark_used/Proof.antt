@@ -7,8 +7,8 @@ use borrow.Author.Needs.{needs}
 use Rattle.types.specs.Build.{maxPageCount}
 use Rattle.types.specs.declared.page_id.PageID.{PageID}
 use Rattle.alloc.specs.Calls.{markUsed}
+use Rattle.alloc.specs.Checks.{pageCheck}
 use Rattle.alloc.specs.Marks.{isMarked}
-use Rattle.alloc.specs.State.{pageCheck}
 use Rattle.alloc.specs.declared.allocator.Allocator.{Allocator}
 use Rattle.alloc.specs.declared.check.Check.the-variants.{Fine}
 use Rattle.alloc.proofs.StateLaws.{InRange, fine-page, page-below, used-le}
@@ -56,20 +56,18 @@ returns-2 c =
 free-here : (c : tie.Else1) → isMarked (self (c .before .before .before .before) .pages) (c .before .before .before .index .result) ≡ false
 free-here c = sym (c .before .is-marked .ensures) ∙ c .if1 .left
 
-mark-requires : tie.Need-mark-requires
-mark-requires c κs = (below (c .before .before .before), free-here c)
-
-add-t13 : tie.Need-add-t13
-add-t13 c =
-    let b = c .before .before .before .before .before .before in
-    let r : InRange (self b) = fine-page (self b) (page b) (fine b) .0 in
-    omega (arith, used-le (self b) r, r .few)
+marked-requires : tie.Need-marked-requires
+marked-requires c κs =
+    let b = c .before .before .before in
+    let a = self (b .before) in
+    let r : InRange a = fine-page a (page (b .before)) (fine (b .before)) .0 in
+    (below b, (free-here c, omega (arith, used-le a r, r .few)))
 
 returns-3 : tie.Need-returns-3
 unfolding markUsed
 returns-3 c =
-    let b = c .before .before .before .before .before in
-    rw (fine (b .before), ← b .index .ensures, free-here (c .before .before), c .before .mark .ensures)
+    let b = c .before .before .before .before in
+    rw (fine (b .before), ← b .index .ensures, free-here (c .before), c .marked .ensures)
 
 pub mark-used-spec : {M : Type 1} → statement M
 mark-used-spec =
@@ -82,6 +80,5 @@ mark-used-spec =
     index-requires
     is-marked-requires
     returns-2
-    mark-requires
-    add-t13
+    marked-requires
     returns-3)

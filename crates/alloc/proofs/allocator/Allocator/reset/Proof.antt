@@ -2,7 +2,7 @@
 use mathlib.Core.Path.{_≡_, sym, _∙_}
 use native.Mathlib.Omega.{arith}
 use Rattle.alloc.specs.Calls.{reset}
-use Rattle.alloc.specs.State.{countCheck}
+use Rattle.alloc.specs.Checks.{countCheck}
 use Rattle.alloc.specs.declared.check.Check.the-variants.{Fine}
 use Rattle.alloc.proofs.StateLaws.{fine-count}
 use borrow.Author.Needs.{needs}

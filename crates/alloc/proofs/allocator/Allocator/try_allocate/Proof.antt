@@ -6,8 +6,8 @@ use native.Mathlib.Omega.{arith}
 use borrow.Author.Needs.{needs}
 use Rattle.types.specs.declared.page_id.MaybePageID.the-variants.{Some}
 use Rattle.alloc.specs.Calls.{found, tryAllocate}
+use Rattle.alloc.specs.Checks.{stateCheck}
 use Rattle.alloc.specs.Marks.{isMarked}
-use Rattle.alloc.specs.State.{stateCheck}
 use Rattle.alloc.specs.declared.allocator.Allocator.{Allocator}
 use Rattle.alloc.specs.declared.check.Check.the-variants.{Fine}
 use Rattle.alloc.proofs.HandedLaws.{found-free}
@@ -66,22 +66,20 @@ free-here : (c : tie.After-index)
 free-here c =
     found-free (self (checked c)) (c .before .before .page .given .0 .0) (c .index .result) (known (checked c)) (page-found c) (c .index .ensures)
 
-mark-requires : tie.Need-mark-requires
-mark-requires c κs = (omega (arith, free-here c .0, known (checked c) .few), free-here c .1)
+marked-requires : tie.Need-marked-requires
+marked-requires c κs =
+    let a = self (checked c) in
+    let r : InRange a = known (checked c) in
+    (omega (arith, free-here c .0, r .few), (free-here c .1, omega (arith, used-le a r, r .few)))
 
-add-t13 : tie.Need-add-t13
-add-t13 c =
-    let b = checked (c .before .before) in
-    omega (arith, used-le (self b) (known b), known b .few)
-
-past-requires : tie.Need-past-requires
-past-requires c κs = free-here (c .before .before) .0
+moved-past-requires : tie.Need-moved-past-requires
+moved-past-requires c κs = rw (c .marked .ensures) (free-here (c .before) .0)
 
 returns-3 : tie.Need-returns-3
 unfolding tryAllocate
 returns-3 c =
-    let b = c .before .before .before in
-    rw (fine (checked b), page-found b, c .past .ensures, c .before .before .mark .ensures, b .index .ensures)
+    let b = c .before .before in
+    rw (fine (checked b), page-found b, c .moved-past .ensures, c .before .marked .ensures, b .index .ensures)
 
 pub try-allocate-spec : {M : Type 1} → statement M
 try-allocate-spec =
@@ -96,7 +94,6 @@ try-allocate-spec =
     enum-told-2
     returns-2
     index-requires
-    mark-requires
-    add-t13
-    past-requires
+    marked-requires
+    moved-past-requires
     returns-3)

@@ -1,8 +1,8 @@
--- `alloc::check::in_range` meets its contract. Assumes nothing.
+-- `alloc::state::in_range` meets its contract. Assumes nothing.
 use Rattle.alloc.specs.State.{inRange}
 use borrow.Author.Needs.{needs}
-use Rattle.alloc.proofs.check.in_range.Statement.{statement}
-use Rattle.alloc.proofs.check.in_range.Tie as tie
+use Rattle.alloc.proofs.state.in_range.Statement.{statement}
+use Rattle.alloc.proofs.state.in_range.Tie as tie
 
 next-fits-requires : tie.Need-next-fits-requires
 next-fits-requires c κs = search needs

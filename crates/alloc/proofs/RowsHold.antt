@@ -1,0 +1,14 @@
+-- Document 01's starred rows about the allocator hold: computed. Assumes nothing.
+use mathlib.Core.Path.{_≡_, refl}
+use mathlib.Core.List.{map}
+use Rattle.alloc.specs.Calls.{reset, markUsed, free, tryAllocate, isUsed, usedPages, freePages, pageCount, marginOf}
+use Rattle.alloc.specs.Checks.{stateCheck, pageCheck, wantedCheck, countCheck}
+use Rattle.alloc.specs.History.{answerTo, leftBy, answersTo}
+use Rattle.alloc.specs.Marks.{bitsOf, marksOf, countOf, marking, freeing}
+use Rattle.alloc.specs.Rows.{Row, outcomeOf, rows}
+use Rattle.alloc.specs.Search.{upFrom, roundFrom, firstFree}
+use Rattle.alloc.specs.State.{inRange}
+
+pub rows-hold : map outcomeOf rows ≡ map (λ (row : Row). row .answers) rows
+unfolding outcomeOf answersTo answerTo leftBy reset markUsed free tryAllocate isUsed usedPages freePages pageCount marginOf inRange stateCheck pageCheck wantedCheck countCheck upFrom roundFrom firstFree bitsOf marksOf countOf marking freeing
+rows-hold = refl
