@@ -15,8 +15,8 @@ use Rattle.alloc.specs.Search.{roundFrom}
 use Rattle.alloc.specs.State.{marked, movedPast, Sized}
 use Rattle.alloc.specs.declared.allocator.Allocator.{Allocator}
 use Rattle.alloc.specs.declared.answers.Allocated.the-variants.{Page}
-use Rattle.alloc.specs.declared.check.Check.{Check}
-use Rattle.alloc.specs.declared.check.Check.the-variants.{Fine, Refused}
+use Rattle.alloc.specs.declared.checks.Check.{Check}
+use Rattle.alloc.specs.declared.checks.Check.the-variants.{Fine, Refused}
 use Rattle.alloc.proofs.FirstLaws.{First, first-says, says-first, length-roundFrom, roundFrom-at, found-below}
 use Rattle.alloc.proofs.MarksLaws.{length-marksOf, marksOf-marking}
 use Rattle.alloc.proofs.StateLaws.{InRange, fine-state, state-fine, next-le}

@@ -21,8 +21,8 @@ use Rattle.alloc.specs.State.{allFree, marked, freed, movedPast, Sized, 
 use Rattle.alloc.specs.declared.allocator.Allocator.{Allocator}
 use Rattle.alloc.specs.declared.answers.Allocation.{Allocation}
 use Rattle.alloc.specs.declared.answers.Change.{Change}
-use Rattle.alloc.specs.declared.check.Check.{Check}
-use Rattle.alloc.specs.declared.check.Check.the-variants.{Fine, Refused}
+use Rattle.alloc.specs.declared.checks.Check.{Check}
+use Rattle.alloc.specs.declared.checks.Check.the-variants.{Fine, Refused}
 use Rattle.alloc.proofs.HandedLaws.{found-free}
 use Rattle.alloc.proofs.MarksLaws.{no-bits-of-zero, countOf-append, countOf-split, countOf-mark, countOf-free, length-marksOf, marksOf-marking, marksOf-freeing}
 use Rattle.alloc.proofs.StateLaws.{InRange, Sound, in-range, is-in-range, fine-page, fine-count}

@@ -17,8 +17,8 @@ use Rattle.alloc.specs.Search.{roundFrom}
 use Rattle.alloc.specs.State.{Sized}
 use Rattle.alloc.specs.declared.allocator.Allocator.{Allocator}
 use Rattle.alloc.specs.declared.answers.Allocated.the-variants.{None}
-use Rattle.alloc.specs.declared.check.Check.{Check}
-use Rattle.alloc.specs.declared.check.Check.the-variants.{Fine, Refused}
+use Rattle.alloc.specs.declared.checks.Check.{Check}
+use Rattle.alloc.specs.declared.checks.Check.the-variants.{Fine, Refused}
 use Rattle.alloc.proofs.FirstLaws.{none-says, says-none, length-roundFrom, roundFrom-at}
 use Rattle.alloc.proofs.MarksLaws.{countOf-split, countOf-le, length-marksOf}
 use Rattle.alloc.proofs.RoundLaws.{round-every}

@@ -13,8 +13,8 @@ use Rattle.alloc.specs.Marks.{isMarked}
 use Rattle.alloc.specs.State.{allFree, marked, freed}
 use Rattle.alloc.specs.declared.allocator.Allocator.{Allocator}
 use Rattle.alloc.specs.declared.answers.Change.{Change}
-use Rattle.alloc.specs.declared.check.Check.{Check}
-use Rattle.alloc.specs.declared.check.Check.the-variants.{Fine, Refused}
+use Rattle.alloc.specs.declared.checks.Check.{Check}
+use Rattle.alloc.specs.declared.checks.Check.the-variants.{Fine, Refused}
 
 -- a change that leaves another allocator is no refusal
 Honest : Allocator → Change → Type 0

@@ -12,12 +12,12 @@ use Rattle.types.specs.declared.page_id.PageID.{PageID}
 use Rattle.types.specs.declared.refusal.Refusal.{Refusal}
 use Rattle.types.specs.declared.refusal.Refusal.the-variants.{OutOfRange, BadCount, BadState}
 use Rattle.types.proofs.TestLaws.{both-true}
-use Rattle.alloc.specs.Marks.{marksOf, isMarked, countOf}
 use Rattle.alloc.specs.Checks.{stateCheck, pageCheck, wantedCheck, countCheck}
+use Rattle.alloc.specs.Marks.{marksOf, isMarked, countOf}
 use Rattle.alloc.specs.State.{Sized, nextFits, inRange}
 use Rattle.alloc.specs.declared.allocator.Allocator.{Allocator}
-use Rattle.alloc.specs.declared.check.Check.{Check}
-use Rattle.alloc.specs.declared.check.Check.the-variants.{Fine, Refused}
+use Rattle.alloc.specs.declared.checks.Check.{Check}
+use Rattle.alloc.specs.declared.checks.Check.the-variants.{Fine, Refused}
 use Rattle.alloc.proofs.MarksLaws.{countOf-split, countOf-le, countOf-free}
 
 -- ---- the range

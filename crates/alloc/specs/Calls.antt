@@ -22,8 +22,8 @@ use Rattle.alloc.specs.declared.answers.Margin.the-variants as margin
 use Rattle.alloc.specs.declared.answers.Outcome.the-variants as outcome
 use Rattle.alloc.specs.declared.answers.Usage.{Usage}
 use Rattle.alloc.specs.declared.answers.Usage.the-variants as usage
-use Rattle.alloc.specs.declared.check.Check.{Check}
-use Rattle.alloc.specs.declared.check.Check.the-variants.{Fine, Refused}
+use Rattle.alloc.specs.declared.checks.Check.{Check}
+use Rattle.alloc.specs.declared.checks.Check.the-variants.{Fine, Refused}
 
 -- ---- calls that change the allocator
 

@@ -7,8 +7,8 @@ use Rattle.types.specs.declared.page_id.PageID.{PageID}
 use Rattle.types.specs.declared.refusal.Refusal.the-variants.{OutOfRange, BadCount, BadState}
 use Rattle.alloc.specs.State.{inRange}
 use Rattle.alloc.specs.declared.allocator.Allocator.{Allocator}
-use Rattle.alloc.specs.declared.check.Check.{Check}
-use Rattle.alloc.specs.declared.check.Check.the-variants.{Fine, Refused}
+use Rattle.alloc.specs.declared.checks.Check.{Check}
+use Rattle.alloc.specs.declared.checks.Check.the-variants.{Fine, Refused}
 
 -- 11, of every call that takes a state but reset
 unfoldable pub stateCheck : Allocator → Check

@@ -1,6 +1,6 @@
 // The page allocator (alloc.rs; document 01, part 3): which pages are used, and which one is looked at next.
 pub mod allocator;
 pub mod answers;
-pub mod check;
+pub mod checks;
 mod marks;
 mod state;

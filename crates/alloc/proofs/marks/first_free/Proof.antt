@@ -1,8 +1,8 @@
 -- `alloc::marks::first_free` meets its contract. Assumes nothing.
 use mathlib.Core.Path.{sym, _∙_}
+use borrow.Author.Needs.{needs}
 use Rattle.alloc.specs.Marks.{marksOf}
 use Rattle.alloc.proofs.SearchLaws.{search-found, search-wraps}
-use borrow.Author.Needs.{needs}
 use Rattle.alloc.proofs.marks.first_free.Statement.{statement}
 use Rattle.alloc.proofs.marks.first_free.Tie as tie
 

@@ -1,7 +1,7 @@
 -- `alloc::marks::is_marked` meets its contract. Assumes nothing.
 use mathlib.Core.Path.{sym}
-use Rattle.alloc.proofs.MarksLaws.{mark-is}
 use borrow.Author.Needs.{needs}
+use Rattle.alloc.proofs.MarksLaws.{mark-is}
 use Rattle.alloc.proofs.marks.is_marked.Statement.{statement}
 use Rattle.alloc.proofs.marks.is_marked.Tie as tie
 

@@ -1,11 +1,11 @@
 -- `alloc::marks::mark` meets its contract. Assumes nothing.
 use Prim.Native.Nat.{_/_}
 use lib.ListN.{getD}
+use borrow.Author.Needs.{needs}
 use mir.Syntax.{w8}
 use mir.Val.{Fits}
 use Rattle.alloc.specs.Marks.{marking}
 use Rattle.alloc.proofs.MarksLaws.{shifted, mark-fits}
-use borrow.Author.Needs.{needs}
 use Rattle.alloc.proofs.marks.mark.Statement.{statement}
 use Rattle.alloc.proofs.marks.mark.Tie as tie
 

@@ -4,10 +4,10 @@ use Prim.Native.Nat.{_/_}
 use native.Mathlib.Omega.{arith}
 use lib.ListN.{length, getD}
 use borrow.Author.Tests.{eq-eqb}
+use borrow.Author.Needs.{needs}
 use mir.Syntax.{w8}
 use mir.Val.{Fits}
 use Rattle.alloc.proofs.CountLaws.{drop-marksOf-end, none-from}
-use borrow.Author.Needs.{needs}
 use Rattle.alloc.proofs.marks.none_from.Statement.{statement}
 use Rattle.alloc.proofs.marks.none_from.Tie as tie
 

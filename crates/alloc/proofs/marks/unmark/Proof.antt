@@ -1,7 +1,7 @@
 -- `alloc::marks::unmark` meets its contract. Assumes nothing.
+use borrow.Author.Needs.{needs}
 use Rattle.alloc.specs.Marks.{freeing}
 use Rattle.alloc.proofs.MarksLaws.{shifted, mark-there}
-use borrow.Author.Needs.{needs}
 use Rattle.alloc.proofs.marks.unmark.Statement.{statement}
 use Rattle.alloc.proofs.marks.unmark.Tie as tie
 

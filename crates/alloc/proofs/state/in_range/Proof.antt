@@ -1,6 +1,6 @@
 -- `alloc::state::in_range` meets its contract. Assumes nothing.
-use Rattle.alloc.specs.State.{inRange}
 use borrow.Author.Needs.{needs}
+use Rattle.alloc.specs.State.{inRange}
 use Rattle.alloc.proofs.state.in_range.Statement.{statement}
 use Rattle.alloc.proofs.state.in_range.Tie as tie
 

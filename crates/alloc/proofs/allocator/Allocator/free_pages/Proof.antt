@@ -1,10 +1,10 @@
 -- `alloc::allocator::Allocator::free_pages` meets its contract. Assumes nothing.
 use mathlib.Core.Path.{_≡_, sym, _∙_}
+use borrow.Author.Needs.{needs}
 use Rattle.alloc.specs.Calls.{freePages}
 use Rattle.alloc.specs.Checks.{stateCheck}
-use Rattle.alloc.specs.declared.check.Check.the-variants.{Fine}
+use Rattle.alloc.specs.declared.checks.Check.the-variants.{Fine}
 use Rattle.alloc.proofs.StateLaws.{fine-state, used-le}
-use borrow.Author.Needs.{needs}
 use Rattle.alloc.proofs.allocator.Allocator.free_pages.Statement.{statement}
 use Rattle.alloc.proofs.allocator.Allocator.free_pages.Tie as tie
 

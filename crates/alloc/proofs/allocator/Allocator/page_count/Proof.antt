@@ -1,7 +1,7 @@
 -- `alloc::allocator::Allocator::page_count` meets its contract. Assumes nothing.
 use mathlib.Core.Path.{sym, _∙_}
-use Rattle.alloc.specs.Calls.{pageCount}
 use borrow.Author.Needs.{needs}
+use Rattle.alloc.specs.Calls.{pageCount}
 use Rattle.alloc.proofs.allocator.Allocator.page_count.Statement.{statement}
 use Rattle.alloc.proofs.allocator.Allocator.page_count.Tie as tie
 

@@ -1,11 +1,11 @@
 -- `alloc::allocator::Allocator::reset` meets its contract. Assumes nothing.
 use mathlib.Core.Path.{_≡_, sym, _∙_}
 use native.Mathlib.Omega.{arith}
+use borrow.Author.Needs.{needs}
 use Rattle.alloc.specs.Calls.{reset}
 use Rattle.alloc.specs.Checks.{countCheck}
-use Rattle.alloc.specs.declared.check.Check.the-variants.{Fine}
+use Rattle.alloc.specs.declared.checks.Check.the-variants.{Fine}
 use Rattle.alloc.proofs.StateLaws.{fine-count}
-use borrow.Author.Needs.{needs}
 use Rattle.alloc.proofs.allocator.Allocator.reset.Statement.{statement}
 use Rattle.alloc.proofs.allocator.Allocator.reset.Tie as tie
 

@@ -1,7 +1,7 @@
 -- `alloc::allocator::Allocator::used_pages` meets its contract. Assumes nothing.
 use mathlib.Core.Path.{sym, _∙_}
-use Rattle.alloc.specs.Calls.{usedPages}
 use borrow.Author.Needs.{needs}
+use Rattle.alloc.specs.Calls.{usedPages}
 use Rattle.alloc.proofs.allocator.Allocator.used_pages.Statement.{statement}
 use Rattle.alloc.proofs.allocator.Allocator.used_pages.Tie as tie
 

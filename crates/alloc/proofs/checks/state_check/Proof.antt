@@ -1,9 +1,9 @@
--- `alloc::check::state_check` meets its contract. Assumes nothing.
+-- `alloc::checks::state_check` meets its contract. Assumes nothing.
 use mathlib.Core.Path.{sym, _∙_}
-use Rattle.alloc.specs.Checks.{stateCheck}
 use borrow.Author.Needs.{needs}
-use Rattle.alloc.proofs.check.state_check.Statement.{statement}
-use Rattle.alloc.proofs.check.state_check.Tie as tie
+use Rattle.alloc.specs.Checks.{stateCheck}
+use Rattle.alloc.proofs.checks.state_check.Statement.{statement}
+use Rattle.alloc.proofs.checks.state_check.Tie as tie
 
 in-range-requires : tie.Need-in-range-requires
 in-range-requires c κs = search needs

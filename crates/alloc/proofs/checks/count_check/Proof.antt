@@ -1,7 +1,7 @@
--- `alloc::check::count_check` meets its contract. Assumes nothing.
+-- `alloc::checks::count_check` meets its contract. Assumes nothing.
 use Rattle.alloc.specs.Checks.{countCheck}
-use Rattle.alloc.proofs.check.count_check.Statement.{statement}
-use Rattle.alloc.proofs.check.count_check.Tie as tie
+use Rattle.alloc.proofs.checks.count_check.Statement.{statement}
+use Rattle.alloc.proofs.checks.count_check.Tie as tie
 
 returns : tie.Need-returns
 unfolding countCheck

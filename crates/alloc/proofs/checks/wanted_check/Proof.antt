@@ -1,9 +1,9 @@
--- `alloc::check::wanted_check` meets its contract. Assumes nothing.
+-- `alloc::checks::wanted_check` meets its contract. Assumes nothing.
 use borrow.Author.Tests.{le-leb, lt-leb}
-use Rattle.alloc.specs.Checks.{stateCheck, wantedCheck}
 use borrow.Author.Needs.{needs}
-use Rattle.alloc.proofs.check.wanted_check.Statement.{statement}
-use Rattle.alloc.proofs.check.wanted_check.Tie as tie
+use Rattle.alloc.specs.Checks.{stateCheck, wantedCheck}
+use Rattle.alloc.proofs.checks.wanted_check.Statement.{statement}
+use Rattle.alloc.proofs.checks.wanted_check.Tie as tie
 
 state-check-requires : tie.Need-state-check-requires
 state-check-requires c κs = search needs

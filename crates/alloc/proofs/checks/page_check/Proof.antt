@@ -1,14 +1,14 @@
--- `alloc::check::page_check` meets its contract. Assumes nothing.
+-- `alloc::checks::page_check` meets its contract. Assumes nothing.
 use mathlib.Core.Path.{_≡_, sym, _∙_}
 use mathlib.Core.Bool.{true}
 use Prim.Native.Nat.{_<_, _≤_}
 use native.Mathlib.Omega.{arith}
 use borrow.Author.Tests.{not-true, not-false, lt-ltb, le-ltb}
+use borrow.Author.Needs.{needs}
 use Rattle.alloc.specs.Checks.{pageCheck}
 use Rattle.alloc.specs.State.{inRange}
-use borrow.Author.Needs.{needs}
-use Rattle.alloc.proofs.check.page_check.Statement.{statement}
-use Rattle.alloc.proofs.check.page_check.Tie as tie
+use Rattle.alloc.proofs.checks.page_check.Statement.{statement}
+use Rattle.alloc.proofs.checks.page_check.Tie as tie
 
 in-range-requires : tie.Need-in-range-requires
 in-range-requires c κs = search needs
