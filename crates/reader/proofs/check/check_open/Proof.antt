@@ -1,0 +1,67 @@
+-- `reader::check::check_open` meets its contract. Assumes nothing.
+use mathlib.Core.Path.{sym, _∙_}
+use Rattle.types.specs.declared.refusal.Refusal.the-variants.{BadFlash, BadHeader}
+use Rattle.flash.specs.Geometry.{flashFine}
+use Rattle.page.specs.Headers.{headerFine}
+use Rattle.reader.specs.Checks.{asking, pageVerdict, openVerdict}
+use Rattle.reader.proofs.CheckLaws.{asked-no, asked-yes}
+use borrow.Author.Needs.{needs}
+use Rattle.reader.proofs.check.check_open.Statement.{statement}
+use Rattle.reader.proofs.check.check_open.Tie as tie
+
+check-flash-requires : tie.Need-check-flash-requires
+check-flash-requires c κs = search needs
+
+enum-known-no : tie.Need-enum-known-no
+enum-known-no c = search needs
+
+returns : tie.Need-returns
+unfolding openVerdict
+returns c =
+    let a = c .before .before .before .before .args in
+    sym (asked-no (flashFine (a .bytes)) BadFlash (c .before .no .given .0 .0) (asking (headerFine (a .h)) BadHeader (pageVerdict (a .bytes) (a .page))) (sym (c .before .before .before .check-flash .ensures) ∙ c .before .no .given .1))
+
+enum-told : tie.Need-enum-told
+enum-told c = search needs
+
+check-header-requires : tie.Need-check-header-requires
+check-header-requires c κs = search needs
+
+enum-known-no-2 : tie.Need-enum-known-no-2
+enum-known-no-2 c = search needs
+
+returns-2 : tie.Need-returns-2
+unfolding openVerdict
+returns-2 c =
+    let a = c .before .before .before .before .before .before .before .args in
+    sym (asked-yes (flashFine (a .bytes)) BadFlash (asking (headerFine (a .h)) BadHeader (pageVerdict (a .bytes) (a .page))) (sym (c .before .before .before .before .before .before .check-flash .ensures) ∙ c .before .before .before .before .enum-told .given .1)
+    ∙ asked-no (headerFine (a .h)) BadHeader (c .before .no2 .given .0 .0) (pageVerdict (a .bytes) (a .page)) (sym (c .before .before .before .check-header .ensures) ∙ c .before .no2 .given .1))
+
+enum-told-2 : tie.Need-enum-told-2
+enum-told-2 c = search needs
+
+check-page-requires : tie.Need-check-page-requires
+check-page-requires c κs = search needs
+
+returns-3 : tie.Need-returns-3
+unfolding openVerdict
+returns-3 c =
+    let a = c .before .before .before .before .before .before .before .args in
+    c .check-page .ensures
+    ∙ sym (asked-yes (flashFine (a .bytes)) BadFlash (asking (headerFine (a .h)) BadHeader (pageVerdict (a .bytes) (a .page))) (sym (c .before .before .before .before .before .before .check-flash .ensures) ∙ c .before .before .before .before .enum-told .given .1)
+    ∙ asked-yes (headerFine (a .h)) BadHeader (pageVerdict (a .bytes) (a .page)) (sym (c .before .before .before .check-header .ensures) ∙ c .before .enum-told2 .given .1))
+
+pub check-open-spec : {M : Type 1} → statement M
+check-open-spec =
+    tie.close
+    (tie.spec
+    check-flash-requires
+    enum-known-no
+    returns
+    enum-told
+    check-header-requires
+    enum-known-no-2
+    returns-2
+    enum-told-2
+    check-page-requires
+    returns-3)

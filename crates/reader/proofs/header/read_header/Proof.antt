@@ -1,0 +1,65 @@
+-- `reader::header::read_header` meets its contract. Assumes nothing.
+use mathlib.Core.Path.{sym, _∙_}
+use borrow.Author.Tests.{not-true, not-false}
+use Rattle.reader.proofs.OpenLaws.{header-refused, header-wrong, header-right}
+use borrow.Author.Needs.{needs}
+use Rattle.reader.proofs.header.read_header.Statement.{statement}
+use Rattle.reader.proofs.header.read_header.Tie as tie
+
+check-open-requires : tie.Need-check-open-requires
+check-open-requires c κs = search needs
+
+enum-known-no : tie.Need-enum-known-no
+enum-known-no c = search needs
+
+returns : tie.Need-returns
+returns c =
+    let a = c .before .before .before .before .before .before .args in
+    header-refused (a .flash .now) (a .magic) (a .page) (a .header .now) (c .before .no .given .0 .0) (sym (c .before .before .before .check-open .ensures) ∙ c .before .no .given .1)
+
+enum-told : tie.Need-enum-told
+enum-told c = search needs
+
+page-of-requires : tie.Need-page-of-requires
+page-of-requires c κs = search needs
+
+page-header-fine-requires : tie.Need-page-header-fine-requires
+page-header-fine-requires c κs = search needs
+
+returns-2 : tie.Need-returns-2
+returns-2 c =
+    let a = c .before .before .before .before .before .before .before .before .args in
+    header-wrong (a .flash .now) (a .magic) (a .page) (a .header .now) (sym (c .before .before .before .before .before .check-open .ensures) ∙ c .before .before .before .enum-told .given .1)
+    (rw (c .before .before .page-of .ensures) at (sym (c .before .page-header-fine .ensures) ∙ not-true _ (c .if1 .taken)))
+
+header-of-requires : tie.Need-header-of-requires
+header-of-requires c κs = search needs
+
+put-requires : tie.Need-put-requires
+put-requires c κs = search needs
+
+same-length : tie.Need-same-length
+same-length c = search needs
+
+returns-3 : tie.Need-returns-3
+returns-3 c =
+    let a = c .before .before .before .before .before .before .before .before .before .before .before .before .before .args in
+    let k = header-right (a .flash .now) (a .magic) (a .page) (a .header .now) (sym (c .before .before .before .before .before .before .before .before .before .before .check-open .ensures) ∙ c .before .before .before .before .before .before .before .before .enum-told .given .1)
+    (rw (c .before .before .before .before .before .before .before .page-of .ensures) at (sym (c .before .before .before .before .before .before .page-header-fine .ensures) ∙ not-false _ (c .before .before .before .before .before .if1 .left))) in
+    (k .0, c .before .before .put .ensures ∙ rw (c .before .before .before .header-of .ensures, c .before .before .before .before .before .before .before .page-of .ensures) (k .1))
+
+pub read-header-spec : {M : Type 1} → statement M
+read-header-spec =
+    tie.close
+    (tie.spec
+    check-open-requires
+    enum-known-no
+    returns
+    enum-told
+    page-of-requires
+    page-header-fine-requires
+    returns-2
+    header-of-requires
+    put-requires
+    same-length
+    returns-3)

@@ -1,0 +1,94 @@
+-- `reader::page_reader::PageReader::open` meets its contract. Assumes nothing.
+use mathlib.Core.Path.{sym, _∙_}
+use borrow.Author.Tests.{not-true, not-false}
+use Rattle.reader.proofs.OpenLaws.{open-refused, open-wrong, open-bad, open-at}
+use borrow.Author.Needs.{needs}
+use Rattle.reader.proofs.page_reader.PageReader.open.Statement.{statement}
+use Rattle.reader.proofs.page_reader.PageReader.open.Tie as tie
+
+check-open-requires : tie.Need-check-open-requires
+check-open-requires c κs = search needs
+
+enum-known-no : tie.Need-enum-known-no
+enum-known-no c = search needs
+
+returns : tie.Need-returns
+returns c =
+    let a = c .before .before .before .before .before .before .args in
+    open-refused (a .flash .now) (a .magic) (a .page) (a .header .now) (c .before .no .given .0 .0) (sym (c .before .before .before .check-open .ensures) ∙ c .before .no .given .1) (a .self)
+
+enum-told : tie.Need-enum-told
+enum-told c = search needs
+
+page-of-requires : tie.Need-page-of-requires
+page-of-requires c κs = search needs
+
+page-header-fine-requires : tie.Need-page-header-fine-requires
+page-header-fine-requires c κs = search needs
+
+returns-2 : tie.Need-returns-2
+returns-2 c =
+    let a = c .before .before .before .before .before .before .before .before .args in
+    open-wrong (a .flash .now) (a .magic) (a .page) (a .header .now) (sym (c .before .before .before .before .before .check-open .ensures) ∙ c .before .before .before .enum-told .given .1)
+    (rw (c .before .before .page-of .ensures) at (sym (c .before .page-header-fine .ensures) ∙ not-true _ (c .if1 .taken))) (a .self)
+
+unread-of-requires : tie.Need-unread-of-requires
+unread-of-requires c κs = search needs
+
+add-arrive : tie.Need-add-arrive
+add-arrive c = search needs
+
+arrive-requires : tie.Need-arrive-requires
+arrive-requires c κs = search needs
+
+enum-known-r : tie.Need-enum-known-r
+enum-known-r c = search needs
+
+enum-told-2 : tie.Need-enum-told-2
+enum-told-2 c = search needs
+
+returns-3 : tie.Need-returns-3
+returns-3 c =
+    let a = c .before .before .before .before .before .before .before .before .before .before .before .before .args in
+    open-bad (a .flash .now) (a .magic) (a .page) (a .header .now) (sym (c .before .before .before .before .before .before .before .before .before .check-open .ensures) ∙ c .before .before .before .before .before .before .before .enum-told .given .1)
+    (rw (c .before .before .before .before .before .before .page-of .ensures) at (sym (c .before .before .before .before .before .page-header-fine .ensures) ∙ not-false _ (c .before .before .before .before .if1 .left))) (a .self)
+    (rw (c .before .before .before .unread-of .ensures, c .before .before .before .before .before .before .page-of .ensures) at (sym (c .before .before .arrive .ensures) ∙ c .enum-told2 .given .1))
+
+header-of-requires : tie.Need-header-of-requires
+header-of-requires c κs = search needs
+
+put-requires : tie.Need-put-requires
+put-requires c κs = search needs
+
+same-length : tie.Need-same-length
+same-length c = search needs
+
+returns-4 : tie.Need-returns-4
+returns-4 c =
+    let a = c .before .before .before .before .before .before .before .before .before .before .before .before .before .before .before .before .before .before .args in
+    let k = open-at (a .flash .now) (a .magic) (a .page) (a .header .now) (sym (c .before .before .before .before .before .before .before .before .before .before .before .before .before .before .before .check-open .ensures) ∙ c .before .before .before .before .before .before .before .before .before .before .before .before .before .enum-told .given .1)
+    (rw (c .before .before .before .before .before .before .before .before .before .before .before .before .page-of .ensures) at (sym (c .before .before .before .before .before .before .before .before .before .before .before .page-header-fine .ensures) ∙ not-false _ (c .before .before .before .before .before .before .before .before .before .before .if1 .left))) (a .self) (c .before .before .before .before .before .before .r .given .0 .0)
+    (rw (c .before .before .before .before .before .before .before .before .before .unread-of .ensures, c .before .before .before .before .before .before .before .before .before .before .before .before .page-of .ensures) at (sym (c .before .before .before .before .before .before .before .before .arrive .ensures) ∙ c .before .before .before .before .before .before .r .given .1)) in
+    (k .0, c .before .before .put .ensures ∙ rw (c .before .before .before .header-of .ensures, c .before .before .before .before .before .before .before .before .before .before .before .before .page-of .ensures) (k .1))
+
+pub open-spec : {M : Type 1} → statement M
+open-spec =
+    tie.close
+    (tie.spec
+    check-open-requires
+    enum-known-no
+    returns
+    enum-told
+    page-of-requires
+    page-header-fine-requires
+    returns-2
+    unread-of-requires
+    add-arrive
+    arrive-requires
+    enum-known-r
+    enum-told-2
+    returns-3
+    header-of-requires
+    put-requires
+    same-length
+    returns-4)

@@ -1,0 +1,25 @@
+-- `reader::page_reader::PageReader::page_id` meets its contract. Assumes nothing.
+use Rattle.reader.specs.Calls.{pageId}
+use borrow.Author.Needs.{needs}
+use Rattle.reader.proofs.page_reader.PageReader.page_id.Statement.{statement}
+use Rattle.reader.proofs.page_reader.PageReader.page_id.Tie as tie
+
+check-state-requires : tie.Need-check-state-requires
+check-state-requires c κs = search needs
+
+enum-known-no : tie.Need-enum-known-no
+enum-known-no c = search needs
+
+returns : tie.Need-returns
+unfolding pageId
+returns c = rw (← c .before .before .before .check-state .ensures, c .before .no .given .1)
+
+enum-told : tie.Need-enum-told
+enum-told c = search needs
+
+returns-2 : tie.Need-returns-2
+unfolding pageId
+returns-2 c = rw (← c .before .before .before .check-state .ensures, c .before .enum-told .given .1)
+
+pub page-id-spec : {M : Type 1} → statement M
+page-id-spec = tie.close (tie.spec check-state-requires enum-known-no returns enum-told returns-2)

@@ -1,0 +1,73 @@
+-- `reader::page_reader::PageReader::rehydrate_from` meets its contract. Assumes nothing.
+use mathlib.Core.Path.{sym, ap, _∙_}
+use Rattle.crc.specs.Published.{published}
+use Rattle.reader.specs.declared.page_reader.PageReader.{PageReader}
+use Rattle.reader.proofs.OpenLaws.{rehydrate-refused, rehydrate-ended, rehydrate-right, rehydrate-wrong}
+use borrow.Author.Needs.{needs}
+use Rattle.reader.proofs.page_reader.PageReader.rehydrate_from.Statement.{statement}
+use Rattle.reader.proofs.page_reader.PageReader.rehydrate_from.Tie as tie
+
+restored-of-requires : tie.Need-restored-of-requires
+restored-of-requires c κs = search needs
+
+check-reader-requires : tie.Need-check-reader-requires
+check-reader-requires c κs = search needs
+
+enum-known-no : tie.Need-enum-known-no
+enum-known-no c = search needs
+
+returns : tie.Need-returns
+returns c =
+    let a = c .before .before .before .before .before .before .args in
+    rehydrate-refused (a .self) (a .flash .now) (a .dehydrated) (c .before .no .given .0 .0)
+    (rw (c .before .before .before .before .restored-of .ensures) at (sym (c .before .before .before .check-reader .ensures) ∙ c .before .no .given .1))
+
+enum-told : tie.Need-enum-told
+enum-told c = search needs
+
+returns-2 : tie.Need-returns-2
+returns-2 c =
+    let a = c .before .before .before .before .before .before .before .args in
+    let s = c .before .before .before .before .before .restored-of .ensures in
+    rw s (rehydrate-ended (a .self) (a .flash .now) (a .dehydrated) (rw s at (sym (c .before .before .before .before .check-reader .ensures) ∙ c .before .before .enum-told .given .1)) (rw s at (c .if1 .taken)))
+
+page-of-requires : tie.Need-page-of-requires
+page-of-requires c κs = search needs
+
+payload-at-requires : tie.Need-payload-at-requires
+payload-at-requires c κs = search needs
+
+crc32-requires : tie.Need-crc32-requires
+crc32-requires c κs = search needs
+
+returns-3 : tie.Need-returns-3
+returns-3 c =
+    let a = c .before .before .before .before .before .before .before .before .before .before .before .before .args in
+    let s = c .before .before .before .before .before .before .before .before .before .before .restored-of .ensures in
+    let sum = c .before .before .crc32 .ensures ∙ ap published (c .before .before .before .payload-at .ensures) in
+    rw s (rehydrate-right (a .self) (a .flash .now) (a .dehydrated) (rw s at (sym (c .before .before .before .before .before .before .before .before .before .check-reader .ensures) ∙ c .before .before .before .before .before .before .before .enum-told .given .1)) (rw s at (c .before .before .before .before .before .if1 .left))
+    (rw (c .before .before .before .before .page-of .ensures, s) at (sym sum ∙ c .if2 .taken)))
+
+returns-4 : tie.Need-returns-4
+returns-4 c =
+    let a = c .before .before .before .before .before .before .before .before .before .before .before .before .args in
+    let s = c .before .before .before .before .before .before .before .before .before .before .restored-of .ensures in
+    let sum = c .before .before .crc32 .ensures ∙ ap published (c .before .before .before .payload-at .ensures) in
+    rehydrate-wrong (a .self) (a .flash .now) (a .dehydrated) (rw s at (sym (c .before .before .before .before .before .before .before .before .before .check-reader .ensures) ∙ c .before .before .before .before .before .before .before .enum-told .given .1)) (rw s at (c .before .before .before .before .before .if1 .left))
+    (λ q. c .if2 .left ((rw (c .before .before .before .before .page-of .ensures, s) at sum) ∙ q ∙ sym (ap (λ (r : PageReader). r .crc) s)))
+
+pub rehydrate-from-spec : {M : Type 1} → statement M
+rehydrate-from-spec =
+    tie.close
+    (tie.spec
+    restored-of-requires
+    check-reader-requires
+    enum-known-no
+    returns
+    enum-told
+    returns-2
+    page-of-requires
+    payload-at-requires
+    crc32-requires
+    returns-3
+    returns-4)

@@ -1,0 +1,66 @@
+-- `reader::page_reader::PageReader::skip` meets its contract. Assumes nothing.
+use mathlib.Core.Path.{sym, _∙_}
+use Rattle.reader.proofs.SkipLaws.{skip-left}
+use Rattle.reader.proofs.ReadLaws.{known-whole, skip-refused, skip-spoilt, skip-to}
+use borrow.Author.Needs.{needs}
+use Rattle.reader.proofs.page_reader.PageReader.skip.Statement.{statement}
+use Rattle.reader.proofs.page_reader.PageReader.skip.Tie as tie
+
+check-reader-requires : tie.Need-check-reader-requires
+check-reader-requires c κs = search needs
+
+enum-known-no : tie.Need-enum-known-no
+enum-known-no c = search needs
+
+returns : tie.Need-returns
+returns c =
+    let a = c .before .before .before .before .before .args in
+    skip-refused (a .self) (a .flash .now) (c .before .no .given .0 .0) (sym (c .before .before .before .check-reader .ensures) ∙ c .before .no .given .1) (a .count)
+
+enum-told : tie.Need-enum-told
+enum-told c = search needs
+
+page-of-requires : tie.Need-page-of-requires
+page-of-requires c κs = search needs
+
+pass-requires : tie.Need-pass-requires
+pass-requires c κs = let a = c .before .before .before .before .before .before .args in known-whole (a .self) (a .flash .now) (sym (c .before .before .before .before .check-reader .ensures) ∙ c .before .before .enum-told .given .1)
+
+enum-told-2 : tie.Need-enum-told-2
+enum-told-2 c = search needs
+
+enum-known-reader : tie.Need-enum-known-reader
+enum-known-reader c = search needs
+
+sub-t16 : tie.Need-sub-t16
+sub-t16 c =
+    let a = c .before .before .before .before .before .before .before .before .before .before .args in
+    skip-left (c .before .before .before .before .page-of .result .now) (a .count) (a .self) (c .before .reader .given .0 .0) (c .before .reader .given .0 .1 .0) (sym (c .before .before .before .pass .ensures) ∙ c .before .reader .given .1)
+
+returns-2 : tie.Need-returns-2
+returns-2 c =
+    let a = c .before .before .before .before .before .before .before .before .before .args in
+    skip-spoilt (a .self) (a .flash .now) (sym (c .before .before .before .before .before .before .before .check-reader .ensures) ∙ c .before .before .before .before .before .enum-told .given .1) (a .count)
+    (rw (c .before .before .before .page-of .ensures) at (sym (c .before .before .pass .ensures) ∙ c .enum-told2 .given .1))
+
+returns-3 : tie.Need-returns-3
+returns-3 c =
+    let a = c .before .before .before .before .before .before .before .before .before .before .args in
+    skip-to (a .self) (a .flash .now) (sym (c .before .before .before .before .before .before .before .before .check-reader .ensures) ∙ c .before .before .before .before .before .before .enum-told .given .1) (a .count) (c .before .reader .given .0 .1 .0) (c .before .reader .given .0 .0)
+    (rw (c .before .before .before .before .page-of .ensures) at (sym (c .before .before .before .pass .ensures) ∙ c .before .reader .given .1))
+
+pub skip-spec : {M : Type 1} → statement M
+skip-spec =
+    tie.close
+    (tie.spec
+    check-reader-requires
+    enum-known-no
+    returns
+    enum-told
+    page-of-requires
+    pass-requires
+    enum-told-2
+    enum-known-reader
+    sub-t16
+    returns-2
+    returns-3)

@@ -1,0 +1,55 @@
+-- Each answer in document 01's words: the number of the row that refuses, 0 where none does, and the values. Assumes nothing.
+use mathlib.Core.Bool.{cond}
+use mathlib.Core.List.{List, [], _∷_}
+use Prim.Native.Nat.{ℕ}
+use Rattle.types.specs.Refusals.{numberOf}
+use Rattle.types.specs.declared.refusal.Refusal.{Refusal}
+use Rattle.reader.specs.declared.answers.Count.{Count}
+use Rattle.reader.specs.declared.answers.Count.the-variants as count
+use Rattle.reader.specs.declared.answers.Dehydration.{Dehydration}
+use Rattle.reader.specs.declared.answers.Dehydration.the-variants as dehydration
+use Rattle.reader.specs.declared.answers.EndTest.{EndTest}
+use Rattle.reader.specs.declared.answers.EndTest.the-variants as endTest
+use Rattle.reader.specs.declared.answers.Outcome.{Outcome}
+use Rattle.reader.specs.declared.answers.Outcome.the-variants as outcome
+use Rattle.reader.specs.declared.answers.Page.{Page}
+use Rattle.reader.specs.declared.answers.Page.the-variants as number
+use Rattle.reader.specs.declared.dehydrated.DehydratedPageReader.{DehydratedPageReader}
+
+pub record Told : Type 0 where
+  pub number : ℕ
+  pub values : List ℕ
+
+-- answered, with these values
+abbrev pub answered : List ℕ → Told
+answered vs = record { number = 0; values = vs }
+
+-- refused
+abbrev pub refusal : Refusal → Told
+refusal why = record { number = numberOf why; values = [] }
+
+abbrev pub outcomeTold : Outcome → Told
+outcomeTold outcome.Done = answered []
+outcomeTold (outcome.Refused why) = refusal why
+
+abbrev pub countTold : Count → Told
+countTold (count.Bytes n) = answered (n ∷ [])
+countTold (count.Refused why) = refusal why
+
+-- at its end is 1, not there is 0
+abbrev pub endTestTold : EndTest → Told
+endTestTold endTest.AtEnd = answered (1 ∷ [])
+endTestTold endTest.More = answered (0 ∷ [])
+endTestTold (endTest.Refused why) = refusal why
+
+-- every field, ended as 1 and not ended as 0
+abbrev pub fieldsOf : DehydratedPageReader → List ℕ
+fieldsOf d = d .page .0 ∷ cond (d .ended) 1 0 ∷ d .offset ∷ d .len ∷ d .crc ∷ d .position ∷ []
+
+abbrev pub dehydrationTold : Dehydration → Told
+dehydrationTold (dehydration.State d) = answered (fieldsOf d)
+dehydrationTold (dehydration.Refused why) = refusal why
+
+abbrev pub pageTold : Page → Told
+pageTold (number.Number page) = answered (page .0 ∷ [])
+pageTold (number.Refused why) = refusal why

@@ -1,0 +1,161 @@
+-- What each call answers, the reader that it hands back, and the bytes that it puts (document 01, 'Reading'): the refusal of its
+-- checks, with the reader and the bytes as they were, or its work. Assumes nothing.
+use mathlib.Core.Bool.{_||_, cond}
+use mathlib.Core.List.{List}
+use Prim.Native.Nat.{ℕ, _+_, _-_, min}
+use lib.Dec.{eqb}
+use lib.ListN.{length}
+use Rattle.types.specs.Build.{pageHeaderSize}
+use Rattle.types.specs.declared.page_id.PageID.{PageID}
+use Rattle.types.specs.declared.refusal.Refusal.the-variants as row
+use Rattle.types.specs.declared.refusal.Verdict.{Verdict}
+use Rattle.types.specs.declared.refusal.Verdict.the-variants.{Fine, Refused}
+use Rattle.crc.specs.Published.{published}
+use Rattle.flash.specs.Geometry.{pageOf}
+use Rattle.flash.specs.Patch.{over}
+use Rattle.page.specs.Chunks.{payloadAt, checkedAt}
+use Rattle.page.specs.Headers.{headerOf, pageHeaderFine}
+use Rattle.reader.specs.Checks.{stateVerdict, openVerdict, readerVerdict}
+use Rattle.reader.specs.Moves.{arriving, ready, restOf, past, skipped}
+use Rattle.reader.specs.States.{unread, stored, restored}
+use Rattle.reader.specs.declared.answers.Count.the-variants as count
+use Rattle.reader.specs.declared.answers.Dehydration.{Dehydration}
+use Rattle.reader.specs.declared.answers.Dehydration.the-variants as dehydration
+use Rattle.reader.specs.declared.answers.EndTest.the-variants as endTest
+use Rattle.reader.specs.declared.answers.EndTested.{EndTested}
+use Rattle.reader.specs.declared.answers.Opening.{Opening}
+use Rattle.reader.specs.declared.answers.Outcome.{Outcome}
+use Rattle.reader.specs.declared.answers.Outcome.the-variants as outcome
+use Rattle.reader.specs.declared.answers.Page.{Page}
+use Rattle.reader.specs.declared.answers.Page.the-variants as number
+use Rattle.reader.specs.declared.answers.Passage.{Passage}
+use Rattle.reader.specs.declared.moves.Arrived.{Arrived}
+use Rattle.reader.specs.declared.moves.Arrived.the-variants.{At, Corrupted}
+use Rattle.reader.specs.declared.moves.Passed.{Passed}
+use Rattle.reader.specs.declared.moves.Passed.the-variants as passed
+use Rattle.reader.specs.declared.dehydrated.DehydratedPageReader.{DehydratedPageReader}
+use Rattle.reader.specs.declared.page_reader.PageReader.{PageReader}
+
+-- ---- read_header
+
+-- a call's work after its checks
+abbrev pub outcomeAfter : Verdict → Outcome → Outcome
+outcomeAfter Fine work = work
+outcomeAfter (Refused why) work = outcome.Refused why
+
+-- 1 where the page header is not fine
+unfoldable pub readHeader : List ℕ → ℕ → PageID → ℕ → Outcome
+readHeader flash magic page h =
+    outcomeAfter (openVerdict (length flash) h page)
+    (cond (pageHeaderFine (pageOf (page .0) flash) magic (page .0) h) outcome.Done (outcome.Refused row.Corrupted))
+
+-- the header buffer afterwards: the higher header's bytes, where nothing was refused
+abbrev pub filled : Outcome → List ℕ → List ℕ → List ℕ
+filled outcome.Done bytes header = bytes
+filled (outcome.Refused why) bytes header = header
+
+unfoldable pub readHeaderBytes : List ℕ → ℕ → PageID → List ℕ → List ℕ
+readHeaderBytes flash magic page header =
+    filled (readHeader flash magic page (length header)) (headerOf (pageOf (page .0) flash) (length header)) header
+
+-- ---- open
+
+-- the page header is checked, then the first chunk's header, then its sum
+abbrev pub opening : List ℕ → ℕ → PageID → ℕ → Arrived
+opening bytes magic page h =
+    cond (pageHeaderFine bytes magic (page .0) h) (arriving (unread page) (pageHeaderSize + h) (checkedAt bytes (pageHeaderSize + h))) Corrupted
+
+-- the reader that comes back: the one that arrived, or the one at entry
+abbrev pub opened : PageReader → Arrived → Opening
+opened r (At s) = record { answer = outcome.Done; reader = s }
+opened r Corrupted = record { answer = outcome.Refused row.Corrupted; reader = r }
+
+abbrev pub openingAfter : Verdict → PageReader → Opening → Opening
+openingAfter Fine r work = work
+openingAfter (Refused why) r work = record { answer = outcome.Refused why; reader = r }
+
+unfoldable pub openPage : PageReader → List ℕ → ℕ → PageID → ℕ → Opening
+openPage r flash magic page h = openingAfter (openVerdict (length flash) h page) r (opened r (opening (pageOf (page .0) flash) magic page h))
+
+-- the header buffer afterwards, which keeps its bytes where the first chunk is bad
+unfoldable pub openBytes : PageReader → List ℕ → ℕ → PageID → List ℕ → List ℕ
+openBytes r flash magic page header =
+    filled (openPage r flash magic page (length header) .answer) (headerOf (pageOf (page .0) flash) (length header)) header
+
+-- ---- read
+
+abbrev pub passageAfter : Verdict → PageReader → Passage → Passage
+passageAfter Fine r work = work
+passageAfter (Refused why) r work = record { answer = count.Refused why; reader = r }
+
+-- the smaller of the room and what is left is read
+abbrev pub taken : List ℕ → PageReader → ℕ → Arrived → Passage
+taken page r room (At s) =
+    record { answer = count.Bytes (min room (length (restOf page s))); reader = past s (min room (length (restOf page s))) }
+taken page r room Corrupted = record { answer = count.Refused row.Corrupted; reader = r }
+
+unfoldable pub read : PageReader → List ℕ → ℕ → Passage
+read r flash room =
+    passageAfter (readerVerdict (length flash) r) r (taken (pageOf (r .page .0) flash) r room (ready (pageOf (r .page .0) flash) r))
+
+-- the buffer afterwards: what was read over its start, the rest as it was
+abbrev pub laidOver : List ℕ → List ℕ → Arrived → List ℕ
+laidOver page buffer (At s) = over (restOf page s) buffer
+laidOver page buffer Corrupted = buffer
+
+abbrev pub bytesAfter : Verdict → List ℕ → List ℕ → List ℕ
+bytesAfter Fine buffer work = work
+bytesAfter (Refused why) buffer work = buffer
+
+unfoldable pub readBytes : PageReader → List ℕ → List ℕ → List ℕ
+readBytes r flash buffer =
+    bytesAfter (readerVerdict (length flash) r) buffer (laidOver (pageOf (r .page .0) flash) buffer (ready (pageOf (r .page .0) flash) r))
+
+-- ---- skip
+
+-- so many bytes were passed as were asked for, less those that were not there
+abbrev pub gone : PageReader → ℕ → Passed → Passage
+gone r n (passed.To s left) = record { answer = count.Bytes (n - left); reader = s }
+gone r n passed.Corrupted = record { answer = count.Refused row.Corrupted; reader = r }
+
+unfoldable pub skip : PageReader → List ℕ → ℕ → Passage
+skip r flash n = passageAfter (readerVerdict (length flash) r) r (gone r n (skipped (pageOf (r .page .0) flash) n r))
+
+-- ---- is_at_eof
+
+abbrev pub endTestAfter : Verdict → PageReader → EndTested → EndTested
+endTestAfter Fine r work = work
+endTestAfter (Refused why) r work = record { answer = endTest.Refused why; reader = r }
+
+abbrev pub tested : PageReader → Arrived → EndTested
+tested r (At s) = record { answer = cond (s .ended) endTest.AtEnd endTest.More; reader = s }
+tested r Corrupted = record { answer = endTest.Refused row.Corrupted; reader = r }
+
+unfoldable pub isAtEof : PageReader → List ℕ → EndTested
+isAtEof r flash = endTestAfter (readerVerdict (length flash) r) r (tested r (ready (pageOf (r .page .0) flash) r))
+
+-- ---- dehydrate, rehydrate_from
+
+abbrev pub dehydrationAfter : Verdict → Dehydration → Dehydration
+dehydrationAfter Fine work = work
+dehydrationAfter (Refused why) work = dehydration.Refused why
+
+unfoldable pub dehydrate : PageReader → Dehydration
+dehydrate r = dehydrationAfter (stateVerdict r) (dehydration.State (stored r))
+
+-- a kept reader: one at its end, or one whose chunk's payload has the sum that it kept
+abbrev pub rehydrating : List ℕ → PageReader → Arrived
+rehydrating page s = cond (s .ended || eqb (published (payloadAt page (s .offset) (s .len))) (s .crc)) (At s) Corrupted
+
+unfoldable pub rehydrateFrom : PageReader → List ℕ → DehydratedPageReader → Opening
+rehydrateFrom r flash d =
+    openingAfter (readerVerdict (length flash) (restored d)) r (opened r (rehydrating (pageOf (d .page .0) flash) (restored d)))
+
+-- ---- page_id
+
+abbrev pub pageAfter : Verdict → PageID → Page
+pageAfter Fine page = number.Number page
+pageAfter (Refused why) page = number.Refused why
+
+unfoldable pub pageId : PageReader → Page
+pageId r = pageAfter (stateVerdict r) (r .page)

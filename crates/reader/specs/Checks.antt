@@ -1,0 +1,42 @@
+-- The range of a reader, and the checks before a call's work, in document 01's order: 5, 6, 11, 4. Assumes nothing.
+use mathlib.Core.Bool.{Bool, _&&_, _||_, cond}
+use Prim.Native.Nat.{ℕ, _+_, _%_}
+use lib.Dec.{eqb, leb, ltb}
+use Rattle.types.specs.Build.{pageSize, align, maxPageCount, pageHeaderSize, chunkHeaderSize}
+use Rattle.types.specs.declared.page_id.PageID.{PageID}
+use Rattle.types.specs.declared.refusal.Refusal.{Refusal}
+use Rattle.types.specs.declared.refusal.Refusal.the-variants.{OutOfRange, BadFlash, BadHeader, BadState}
+use Rattle.types.specs.declared.refusal.Verdict.{Verdict}
+use Rattle.types.specs.declared.refusal.Verdict.the-variants.{Fine, Refused}
+use Rattle.flash.specs.Geometry.{flashFine, hasPage}
+use Rattle.page.specs.Headers.{headerFine}
+use Rattle.reader.specs.declared.page_reader.PageReader.{PageReader}
+
+-- a chunk's offset is a multiple of 4 from 12, its payload ends within the page, and the position is at most its length
+abbrev pub chunkInRange : ℕ → ℕ → ℕ → Bool
+chunkInRange offset len position =
+    eqb (offset % align) 0 && leb pageHeaderSize offset && leb (offset + chunkHeaderSize + len) pageSize && leb position len
+
+-- a reader's page is below 256 and, if it has not ended, its chunk is in range
+abbrev pub inRange : PageReader → Bool
+inRange r = ltb (r .page .0) maxPageCount && (r .ended || chunkInRange (r .offset) (r .len) (r .position))
+
+-- a check that refuses where its test fails, and the checks after it
+abbrev pub asking : Bool → Refusal → Verdict → Verdict
+asking test why later = cond test later (Refused why)
+
+-- 11, of dehydrate and page_id
+abbrev pub stateVerdict : PageReader → Verdict
+stateVerdict r = asking (inRange r) BadState Fine
+
+-- 4
+abbrev pub pageVerdict : ℕ → PageID → Verdict
+pageVerdict n page = asking (hasPage n (page .0)) OutOfRange Fine
+
+-- 5, 6, 4, of open and read_header on a flash of n bytes
+unfoldable pub openVerdict : ℕ → ℕ → PageID → Verdict
+openVerdict n h page = asking (flashFine n) BadFlash (asking (headerFine h) BadHeader (pageVerdict n page))
+
+-- 5, 11, 4, of every call on a reader that takes the flash
+unfoldable pub readerVerdict : ℕ → PageReader → Verdict
+readerVerdict n r = asking (flashFine n) BadFlash (asking (inRange r) BadState (pageVerdict n (r .page)))

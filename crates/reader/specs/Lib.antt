@@ -1,0 +1,5 @@
+pub mod Answers
+pub mod Calls
+pub mod Checks
+pub mod Moves
+pub mod States
