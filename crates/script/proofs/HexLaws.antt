@@ -2,14 +2,18 @@
 use mathlib.Core.Path.{_≡_, refl, sym, ap, _∙_}
 use mathlib.Core.Bool.{Bool, true, false, _&&_}
 use mathlib.Core.List.{List, [], _∷_}
-use Prim.Native.Nat.{ℕ, zero, suc, _+_, _-_, _*_, _/_, _%_, _≤_, _<_}
+use mathlib.Core.Logic.{⊎-elim}
+use Prim.Native.Nat.{ℕ, zero, suc, _+_, _-_, _*_, _/_, _%_, _≤_, _<_, min}
 use native.Mathlib.Numerals.{add-one}
 use native.Mathlib.Omega.{arith}
 use lib.Dec.{eqb, ltb}
-use lib.ListN.{length, drop, getD, drop-of-length-le}
-use lib.Seq.{drop-cons}
+use lib.ListN.{length, take, drop, getD, set, drop-of-length-le}
+use lib.Seq.{drop-cons, take-all}
 use borrow.Author.Tests.{le-ltb, lt-ltb, le-leb, lt-leb}
-use Rattle.script.specs.Hex.{digitIn, allDigits, byteIn, bytesIn, decodedOf}
+use Rattle.flash.specs.Patch.{over}
+use Rattle.flash.proofs.PatchLaws.{put-turn}
+use Rattle.types.proofs.TestLaws.{le-or-lt}
+use Rattle.script.specs.Hex.{digitIn, digitOf, allDigits, byteIn, bytesIn, decodedOf, hexOf}
 use Rattle.script.specs.declared.hex.Decoded.the-variants.{Bytes, Bad, NoRoom}
 
 -- ---- all digits
@@ -84,3 +88,45 @@ module _ (word : List ℕ) (n : ℕ) (digits : Bool) (e : digits ≡ allDigits w
 
   pub decoded-bad : (eqb (length word % 2) 0 && digits) ≡ false → Bad ≡ decodedOf word n
   decoded-bad t = rw (← e) (rw t)
+
+-- ---- encoding
+
+length-hexOf : (bytes : List ℕ) → length (hexOf bytes) ≡ 2 * length bytes
+unfolding hexOf
+length-hexOf [] = refl
+length-hexOf (b ∷ bytes) = let ih : length (hexOf bytes) ≡ 2 * length bytes = length-hexOf bytes in omega arith
+
+hexOf-high : (bytes : List ℕ) (i : ℕ) → i < length bytes → getD (hexOf bytes) (2 * i) 0 ≡ digitOf (getD bytes i 0 / 16)
+unfolding hexOf
+hexOf-high [] i h = absurd (omega arith)
+hexOf-high (b ∷ bytes) zero h = refl
+hexOf-high (b ∷ bytes) (suc i) h =
+    let e : 2 * suc i ≡ suc (suc (2 * i)) = omega arith in rw e (hexOf-high bytes i (omega arith))
+
+hexOf-low : (bytes : List ℕ) (i : ℕ) → i < length bytes → getD (hexOf bytes) (2 * i + 1) 0 ≡ digitOf (getD bytes i 0 % 16)
+unfolding hexOf
+hexOf-low [] i h = absurd (omega arith)
+hexOf-low (b ∷ bytes) zero h = refl
+hexOf-low (b ∷ bytes) (suc i) h =
+    let e : 2 * suc i + 1 ≡ suc (suc (2 * i + 1)) = omega arith in rw e (hexOf-low bytes i (omega arith))
+
+take-hexOf : (k : ℕ) (bytes : List ℕ) → take (2 * k) (hexOf bytes) ≡ hexOf (take k bytes)
+unfolding hexOf
+take-hexOf zero bytes = refl
+take-hexOf (suc k) [] = let e : 2 * suc k ≡ suc (suc (2 * k)) = omega arith in rw e
+take-hexOf (suc k) (b ∷ bytes) =
+    let e : 2 * suc k ≡ suc (suc (2 * k)) = omega arith in rw (e, take-hexOf k bytes)
+
+-- a byte more
+pub encode-turn : (bytes out : List ℕ) (i : ℕ) → i < length bytes → 2 * i + 1 < length out → set (set (over (take (2 * i) (hexOf bytes)) out) (2 * i) (digitOf (getD bytes i 0 / 16))) (2 * i + 1) (digitOf (getD bytes i 0 % 16)) ≡ over (take (2 * (i + 1)) (hexOf bytes)) out
+encode-turn bytes out i h k =
+    let n : length (hexOf bytes) ≡ 2 * length bytes = length-hexOf bytes in
+    let e : 2 * (i + 1) ≡ 2 * i + 1 + 1 = omega arith in
+    rw (← hexOf-high bytes i h, ← hexOf-low bytes i h, e)
+    (ap (λ (l : List ℕ). set l (2 * i + 1) (getD (hexOf bytes) (2 * i + 1) 0)) (put-turn (hexOf bytes) out (2 * i) (omega arith) (omega arith)) ∙ put-turn (hexOf bytes) out (2 * i + 1) (omega arith) (omega arith))
+
+-- all that there is room for
+pub encode-end : (bytes out : List ℕ) (i : ℕ) → i ≡ min (length bytes) (length out / 2) → over (take (2 * i) (hexOf bytes)) out ≡ over (hexOf (take (length out / 2) bytes)) out
+encode-end bytes out i e =
+    ap (λ (l : List ℕ). over l out)
+    (take-hexOf i bytes ∙ ap hexOf (⊎-elim (λ h. take-all i bytes (omega arith) ∙ sym (take-all (length out / 2) bytes h)) (λ h. let q : i ≡ length out / 2 = omega arith in ap (λ (n : ℕ). take n bytes) q) (le-or-lt (length bytes) (length out / 2))))

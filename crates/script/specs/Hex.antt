@@ -48,3 +48,8 @@ bufferAfter NoRoom word out = out
 unfoldable pub digitsOf : ℕ → ℕ → List ℕ → List ℕ
 digitsOf zero n rest = rest
 digitsOf (suc k) n rest = digitsOf k (n / 16) (digitOf (n % 16) ∷ rest)
+
+-- bytes as pairs of digits
+unfoldable pub hexOf : List ℕ → List ℕ
+hexOf [] = []
+hexOf (b ∷ bytes) = digitOf (b / 16) ∷ digitOf (b % 16) ∷ hexOf bytes

@@ -1,10 +1,11 @@
 // Bytes in hex, and numbers as hex digits.
 ghost use mathlib.Core.Path.{_≡_};
 ghost use mathlib.Core.List.{[]};
-ghost use Prim.Native.Nat.{_≤_, _*_, _%_};
-ghost use lib.ListN.{length};
+ghost use Prim.Native.Nat.{_≤_, _*_, _/_, _%_, min};
+ghost use lib.ListN.{length, take};
 ghost use Rattle.flash.specs.Patch.{over};
-ghost use Rattle.script.specs.Hex.{digitIn, digitOf, allDigits, byteIn, bytesIn, decodedOf, bufferAfter, digitsOf};
+ghost use Rattle.script.specs.Hex.{digitIn, digitOf, allDigits, byteIn, bytesIn, decodedOf, bufferAfter, digitsOf, hexOf};
+use types::num::least;
 
 // What a word in hex comes to.
 pub enum Decoded {
@@ -17,7 +18,7 @@ pub enum Decoded {
 }
 
 // What a digit counts, or 16.
-fn digit_in(d: u8) -> u8
+pub(crate) fn digit_in(d: u8) -> u8
     ensures answers { λ r. ⌜ r ≡ digitIn d ⌝ }
 {
     if d < 48 {
@@ -102,4 +103,29 @@ pub fn hex32(n: u32) -> [u8; 8]
         digit_of(n / 16),
         digit_of(n),
     ]
+}
+
+fn high_digit(byte: u8) -> u8
+    ensures answers { λ r. ⌜ r ≡ digitOf (byte / 16) ⌝ }
+{
+    digit_of((byte / 16) as u32)
+}
+
+fn low_digit(byte: u8) -> u8
+    ensures answers { λ r. ⌜ r ≡ digitOf (byte % 16) ⌝ }
+{
+    digit_of(byte as u32)
+}
+
+// Lays bytes out in hex at the buffer's start, so many of them as there is room for, and answers how many digits that makes.
+pub fn encode(bytes: &[u8], out: &mut [u8]) -> usize
+    ensures answers { λ r. ⌜ r ≡ 2 * min (length (now (bytes .entry))) (length (now (out .entry)) / 2) ⌝ }
+    ensures bytes { λ _. ⌜ now (out .exit) ≡ over (hexOf (take (length (now (out .entry)) / 2) (now (bytes .entry)))) (now (out .entry)) ⌝ }
+{
+    let n = least(bytes.len(), out.len() / 2);
+    for i in 0..n {
+        out[2 * i] = high_digit(bytes[i]);
+        out[2 * i + 1] = low_digit(bytes[i]);
+    }
+    2 * n
 }

@@ -1,6 +1,11 @@
 // Lines and words: a line ends at a newline, a word at a space.
 ghost use mathlib.Core.Path.{_≡_};
-ghost use Rattle.script.specs.Words.{endFrom};
+ghost use Rattle.script.specs.Words.{endFrom, wordAt, wordCount};
+use flash::part::part_of;
+use types::num::least;
+use types::num::less;
+
+const SPACE: u8 = b' ';
 
 // The index of the first such byte at or after an index. Where there is none: the text's end, or the index if that is past it.
 pub fn end_from(text: &[u8], from: usize, byte: u8) -> usize
@@ -14,4 +19,28 @@ pub fn end_from(text: &[u8], from: usize, byte: u8) -> usize
         i += 1;
     }
     i
+}
+
+// The k-th word of a line, counted from 0, and nothing past the last.
+pub fn word_at(line: &[u8], k: usize) -> &[u8]
+    ensures answers { λ r. ⌜ now r ≡ wordAt k (now (line .entry)) ⌝ }
+{
+    let mut at = 0;
+    for _ in 0..k {
+        at = least(end_from(line, at, SPACE), line.len()) + 1;
+    }
+    part_of(line, at, less(end_from(line, at, SPACE), at))
+}
+
+// How many words a line has: one more than it has spaces.
+pub fn word_count(line: &[u8]) -> usize
+    ensures answers { λ r. ⌜ r ≡ wordCount (now (line .entry)) ⌝ }
+{
+    let mut count = 1;
+    for i in 0..line.len() {
+        if line[i] == SPACE {
+            count += 1;
+        }
+    }
+    count
 }

@@ -1,0 +1,73 @@
+-- `script::words::word_at` meets its contract: the word sought from a later word on is the one sought. Assumes nothing.
+use mathlib.Core.Path.{_≡_, refl, sym, ap, _∙_}
+use Prim.Native.Nat.{ℕ, _-_, _≤_, min}
+use native.Mathlib.Nat.{sub-zero}
+use borrow.Author.Needs.{needs}
+use lib.ListN.{length, take, drop}
+use Rattle.script.specs.Words.{endFrom, space, wordAt}
+use Rattle.script.proofs.WordLaws.{word-turn, word-found}
+use Rattle.script.proofs.words.word_at.Statement.{statement}
+use Rattle.script.proofs.words.word_at.Tie as tie
+
+abbrev Inv-loop : tie.InvT-loop
+Inv-loop line k at₀ counter₀ at counter = wordAt (k - counter) (drop at line) ≡ wordAt k line
+
+abbrev μ-loop : tie.MeasureT-loop
+μ-loop line k at₀ counter₀ at counter = k - counter
+
+loop-holds : tie.Need-loop-holds Inv-loop μ-loop
+loop-holds c = rw sub-zero
+
+end-from-requires : tie.Need-end-from-requires Inv-loop μ-loop
+end-from-requires c κs = search needs
+
+least-requires : tie.Need-least-requires Inv-loop μ-loop
+least-requires c κs = search needs
+
+add-at : tie.Need-add-at Inv-loop μ-loop
+add-at c = search needs
+
+add-counter : tie.Need-add-counter Inv-loop μ-loop
+add-counter c = search needs
+
+loop-less : tie.Need-loop-less Inv-loop μ-loop
+loop-less c = search needs
+
+loop-again : tie.Need-loop-again Inv-loop μ-loop
+loop-again c =
+    let l = c .before .before .before .loop in
+    let a = c .before .before .before .before .before .args in
+    word-turn (a .line .now) (l .at) (c .least .result) (rw (c .before .end-from .ensures) at (c .least .ensures)) (a .k) (l .counter) (c .before .before .loop-test .taken) ∙ l .inv
+
+end-from-requires-2 : tie.Need-end-from-requires-2 Inv-loop μ-loop
+end-from-requires-2 c κs = search needs
+
+less-requires : tie.Need-less-requires Inv-loop μ-loop
+less-requires c κs = search needs
+
+part-of-requires : tie.Need-part-of-requires Inv-loop μ-loop
+part-of-requires c κs = search needs
+
+returns : tie.Need-returns Inv-loop μ-loop
+returns c =
+    let l = c .before .before .before .before .loop in
+    let a = c .before .before .before .before .before .before .args in
+    c .part-of .ensures ∙ rw (c .before .less .ensures, c .before .before .end-from2 .ensures) (word-found (a .line .now) (l .at) (a .k) (l .counter) (c .before .before .before .loop-test .left) ∙ l .inv)
+
+pub word-at-spec : {M : Type 1} → statement M
+word-at-spec =
+    tie.close
+    (tie.spec
+    Inv-loop
+    μ-loop
+    loop-holds
+    end-from-requires
+    least-requires
+    add-at
+    add-counter
+    loop-less
+    loop-again
+    end-from-requires-2
+    less-requires
+    part-of-requires
+    returns)
