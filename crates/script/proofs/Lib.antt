@@ -1,3 +1,4 @@
 pub mod HexLaws
 pub mod NumberLaws
+pub mod SignLaws
 pub mod WordLaws

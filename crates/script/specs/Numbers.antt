@@ -1,10 +1,12 @@
 -- Numbers as words: digits of a base, the highest first. Assumes nothing.
-use mathlib.Core.Bool.{cond, _&&_}
+use mathlib.Core.Bool.{true, false, cond, _&&_}
 use mathlib.Core.List.{List, [], _∷_}
-use Prim.Native.Nat.{ℕ, _+_, _-_, _*_, _^_}
+use Prim.Native.Nat.{ℕ, suc, _+_, _-_, _*_, _^_}
 use lib.Dec.{eqb, leb, ltb}
+use lib.IntN.{ℤ, pos, negsuc}
 use lib.ListN.{length}
 use Rattle.script.specs.Hex.{digitIn}
+use Rattle.script.specs.declared.number.Apart.{Apart}
 use Rattle.script.specs.declared.number.Number.{Number}
 use Rattle.script.specs.declared.number.Number.the-variants.{Value, NoNumber}
 use Rattle.script.specs.declared.number.Word32.{Word32}
@@ -36,3 +38,8 @@ narrowed NoNumber = NoWord
 -- eight digits in hex
 abbrev pub word32In : List ℕ → Word32
 word32In word = cond (eqb (length word) 8) (narrowed (numberIn 16 (2 ^ 32 - 1) word)) NoWord
+
+-- a number with its sign apart
+abbrev pub apartOf : ℤ → Apart
+apartOf (pos n) = record { below = false; size = n }
+apartOf (negsuc n) = record { below = true; size = suc n }

@@ -1,7 +1,7 @@
 // Numbers as words: decimal ones, and eight digits in hex.
 ghost use mathlib.Core.Path.{_≡_};
 ghost use Prim.Native.Nat.{_≤_, _<_};
-ghost use Rattle.script.specs.Numbers.{joined, numberIn, decimalIn, word32In};
+ghost use Rattle.script.specs.Numbers.{joined, numberIn, decimalIn, word32In, apartOf};
 use super::hex::digit_in;
 
 const MOST_64: usize = 0xFFFF_FFFF_FFFF_FFFF;
@@ -76,4 +76,27 @@ pub fn word32_in(word: &[u8]) -> Word32
         return Word32::NoWord;
     };
     Word32::Word(n as u32)
+}
+
+// A number with its sign apart.
+pub struct Apart {
+    pub below: bool,
+    // How far it is from zero.
+    pub size: usize,
+}
+
+pub fn sign_apart(n: isize) -> Apart
+    ensures answers { λ r. ⌜ r ≡ apartOf n ⌝ }
+{
+    if n < 0 {
+        Apart {
+            below: true,
+            size: (-1 - n) as usize + 1,
+        }
+    } else {
+        Apart {
+            below: false,
+            size: n as usize,
+        }
+    }
 }

@@ -1,23 +1,22 @@
--- `replay_crc::replay` meets its contract: each turn passes a line, and the room for its bytes keeps its length. Assumes nothing.
-use mathlib.Core.Path.{_≡_, sym, _∙_}
-use Prim.Native.Nat.{_-_}
+-- `replays::lines::answer_lines` meets its contract: each turn passes a line, and no more lines are passed than bytes. Assumes nothing.
+use Prim.Native.Nat.{_-_, _≤_}
 use native.Mathlib.Omega.{arith}
 use borrow.Author.Needs.{needs}
 use lib.ListN.{length}
-use Rattle.replay_crc.proofs.replay.Statement.{statement}
-use Rattle.replay_crc.proofs.replay.Tie as tie
+use Rattle.replays.proofs.lines.answer_lines.Statement.{statement}
+use Rattle.replays.proofs.lines.answer_lines.Tie as tie
 
 abbrev Inv-loop : tie.InvT-loop
-Inv-loop script bytes₀ at₀ bytes at = 16384 ≡ length bytes
+Inv-loop script w₀ number₀ at₀ w number at = number ≤ at
 
 abbrev μ-loop : tie.MeasureT-loop
-μ-loop script bytes₀ at₀ bytes at = length script - at
+μ-loop script w₀ number₀ at₀ w number at = length script - at
 
-line-space-requires : tie.Need-line-space-requires Inv-loop μ-loop
-line-space-requires c κs = search needs
+new-requires : tie.Need-new-requires Inv-loop μ-loop
+new-requires c κs = search needs
 
 loop-holds : tie.Need-loop-holds Inv-loop μ-loop
-loop-holds c = c .line-space .ensures .1
+loop-holds c = omega arith
 
 end-from-requires : tie.Need-end-from-requires Inv-loop μ-loop
 end-from-requires c κs = search needs
@@ -28,11 +27,17 @@ less-requires c κs = search needs
 part-of-requires : tie.Need-part-of-requires Inv-loop μ-loop
 part-of-requires c κs = search needs
 
-slice-aggregate-answer : tie.Need-slice-aggregate-answer Inv-loop μ-loop
-slice-aggregate-answer c = c .before .before .before .before .before .loop .inv
+add-number : tie.Need-add-number Inv-loop μ-loop
+add-number c = omega arith
 
 answer-requires : tie.Need-answer-requires Inv-loop μ-loop
 answer-requires c κs = search needs
+
+say-stopped-requires : tie.Need-say-stopped-requires Inv-loop μ-loop
+say-stopped-requires c κs = search needs
+
+returns : tie.Need-returns Inv-loop μ-loop
+returns c = search needs
 
 least-requires : tie.Need-least-requires Inv-loop μ-loop
 least-requires c κs = search needs
@@ -44,26 +49,28 @@ loop-less : tie.Need-loop-less Inv-loop μ-loop
 loop-less c = omega arith
 
 loop-again : tie.Need-loop-again Inv-loop μ-loop
-loop-again c = c .before .before .before .before .before .before .before .before .loop .inv ∙ sym (c .before .before .answer .kept .1 .0)
+loop-again c = omega arith
 
-returns : tie.Need-returns Inv-loop μ-loop
-returns c = search needs
+returns-2 : tie.Need-returns-2 Inv-loop μ-loop
+returns-2 c = search needs
 
-pub replay-spec : {M : Type 1} → statement M
-replay-spec =
+pub answer-lines-spec : {M : Type 1} → statement M
+answer-lines-spec =
     tie.close
     (tie.spec
     Inv-loop
     μ-loop
-    line-space-requires
+    new-requires
     loop-holds
     end-from-requires
     less-requires
     part-of-requires
-    slice-aggregate-answer
+    add-number
     answer-requires
+    say-stopped-requires
+    returns
     least-requires
     add-at
     loop-less
     loop-again
-    returns)
+    returns-2)

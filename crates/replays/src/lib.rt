@@ -1,0 +1,13 @@
+// What each replay program runs: a script of calls, read from standard input, and an answer line for each call.
+mod allocators;
+mod args;
+mod line;
+mod lines;
+mod say;
+mod sums;
+mod world;
+
+// Answers the script on standard input, up to its end or to a line that is no call.
+pub fn replay() {
+    lines::answer_input();
+}

@@ -1,0 +1,48 @@
+// The lines of a script, each answered in turn.
+use crate::line::answer;
+use crate::world::World;
+use flash::part::part_of;
+use libc::STDERR_FILENO;
+use libc::STDIN_FILENO;
+use script::space::script_space;
+use script::words::end_from;
+use types::num::least;
+use types::num::less;
+
+fn say_stopped(number: usize, line: &[u8]) {
+    io::write_all(STDERR_FILENO, b"replay: line ");
+    io::print_decimal(STDERR_FILENO, number as u64);
+    io::write_all(STDERR_FILENO, b" is no call, or passes a limit: ");
+    io::write_all(STDERR_FILENO, part_of(line, 0, 60));
+    io::write_all(STDERR_FILENO, b"\n");
+}
+
+fn answer_lines(script: &[u8]) {
+    let mut w = World::new();
+    let mut number = 0;
+    let mut at = 0;
+    while at < script.len() {
+        let end = end_from(script, at, b'\n');
+        let line = part_of(script, at, less(end, at));
+        number += 1;
+        w = answer(w, line);
+        if !w.fine {
+            say_stopped(number, line);
+            return;
+        }
+        at = least(end, script.len()) + 1;
+    }
+}
+
+pub(crate) fn answer_input() {
+    let mut space = script_space();
+    let n = io::read_full(STDIN_FILENO, &mut space);
+    if n == space.len() {
+        io::write_all(
+            STDERR_FILENO,
+            b"replay: the script is longer than 262143 bytes\n",
+        );
+        return;
+    }
+    answer_lines(part_of(&space, 0, n));
+}

@@ -1,0 +1,71 @@
+// Answers, word by word: the first one starts the line, and each other brings the space before it.
+use flash::part::part_of;
+use libc::STDOUT_FILENO;
+use script::hex::encode;
+use script::hex::hex32;
+use script::number::sign_apart;
+use script::space::line_space;
+use types::refusal::Refusal;
+
+fn text(bytes: &[u8]) {
+    io::write_all(STDOUT_FILENO, bytes);
+}
+
+pub(crate) fn ok() {
+    text(b"ok");
+}
+
+// A refusal, by its number.
+pub(crate) fn no(why: Refusal) {
+    text(b"no");
+    number(why.number() as usize);
+}
+
+pub(crate) fn none() {
+    text(b"none");
+}
+
+pub(crate) fn end_of_line() {
+    text(b"\n");
+}
+
+fn word(bytes: &[u8]) {
+    text(b" ");
+    text(bytes);
+}
+
+pub(crate) fn number(n: usize) {
+    text(b" ");
+    io::print_decimal(STDOUT_FILENO, n as u64);
+}
+
+// A number that may be below zero.
+pub(crate) fn signed(n: isize) {
+    let parts = sign_apart(n);
+    if parts.below {
+        text(b" -");
+        io::print_decimal(STDOUT_FILENO, parts.size as u64);
+    } else {
+        number(parts.size);
+    }
+}
+
+pub(crate) fn flag(set: bool) {
+    number(set as usize);
+}
+
+pub(crate) fn word32(n: u32) {
+    let digits = hex32(n);
+    word(&digits);
+}
+
+// Bytes in hex, or `-` for none.
+pub(crate) fn bytes(bytes: &[u8]) {
+    if bytes.len() == 0 {
+        word(b"-");
+        return;
+    }
+    let mut digits = line_space();
+    let n = encode(bytes, &mut digits);
+    word(part_of(&digits, 0, n));
+}
