@@ -33,9 +33,10 @@ pub(crate) fn marked(a: Allocator, p: usize) -> Allocator
     ensures answers { λ r. ⌜ r ≡ marked a p ⌝ }
 {
     let pages = a.pages;
+    let with = marks::mark(pages, p);
     Allocator {
         page_count: a.page_count,
-        pages: marks::mark(pages, p),
+        pages: with,
         used: a.used + 1,
         next_page_id: a.next_page_id,
     }
@@ -49,9 +50,10 @@ pub(crate) fn freed(a: Allocator, p: usize) -> Allocator
     ensures answers { λ r. ⌜ r ≡ freed a p ⌝ }
 {
     let pages = a.pages;
+    let without = marks::unmark(pages, p);
     Allocator {
         page_count: a.page_count,
-        pages: marks::unmark(pages, p),
+        pages: without,
         used: a.used - 1,
         next_page_id: a.next_page_id,
     }
