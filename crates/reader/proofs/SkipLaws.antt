@@ -22,16 +22,16 @@ module _ (page : List ℕ) where
   abbrev Enough : ℕ → PageReader → Type 0
   Enough n r = r .ended ≡ false → pageSize < r .offset + chunkHeaderSize + chunkHeaderSize * n
 
-  by-ended : (n count : ℕ) (r : PageReader) → r .ended ≡ true → skipBy n page count r ≡ passed.To r count
+  pub by-ended : (n count : ℕ) (r : PageReader) → r .ended ≡ true → skipBy n page count r ≡ passed.To r count
   unfolding skipBy
   by-ended zero count r e = refl
   by-ended (suc n) count r e = rw e
 
-  by-here : (n count : ℕ) (r : PageReader) → r .ended ≡ false → count ≤ length (restOf page r) → skipBy (suc n) page count r ≡ passed.To (past r count) 0
+  pub by-here : (n count : ℕ) (r : PageReader) → r .ended ≡ false → count ≤ length (restOf page r) → skipBy (suc n) page count r ≡ passed.To (past r count) 0
   unfolding skipBy
   by-here n count r e h = rw (le-leb count (length (restOf page r)) h, e)
 
-  by-on : (n count : ℕ) (r : PageReader) → r .ended ≡ false → length (restOf page r) < count
+  pub by-on : (n count : ℕ) (r : PageReader) → r .ended ≡ false → length (restOf page r) < count
       → skipBy (suc n) page count r ≡ onward (skipBy n page (count - length (restOf page r))) (moved page (past r (length (restOf page r))))
   unfolding skipBy
   by-on n count r e h = rw (lt-leb count (length (restOf page r)) h, e)
