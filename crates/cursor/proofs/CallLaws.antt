@@ -1,5 +1,5 @@
 -- The two calls from their parts: the checks, then the work. Assumes nothing.
-use mathlib.Core.Path.{_≡_, refl, sym, _∙_}
+use mathlib.Core.Path.{_≡_, refl}
 use mathlib.Core.Bool.{Bool, true, false, cond}
 use mathlib.Core.List.{List}
 use Prim.Native.Nat.{ℕ, suc, _+_, _-_, _≤_, _<_}
@@ -8,12 +8,12 @@ use native.Mathlib.Omega.{arith}
 use lib.ListN.{length, set}
 use Rattle.types.specs.Build.{fileCount}
 use Rattle.types.specs.declared.refusal.Refusal.{Refusal}
-use Rattle.types.specs.declared.refusal.Refusal.the-variants.{BadRuns, BadState}
+use Rattle.types.specs.declared.refusal.Refusal.the-variants.{BadRuns}
 use Rattle.run.specs.Search.{soughtIn}
 use Rattle.run.specs.declared.bound.Bound.{Bound}
 use Rattle.run.specs.declared.search.Sought.{Sought}
 use Rattle.run.specs.declared.search.Sought.the-variants as sought
-use Rattle.cursor.specs.Checks.{goodRuns, goodPlaces, newCheck, nextCheck}
+use Rattle.cursor.specs.Checks.{goodRuns, newCheck, nextCheck}
 use Rattle.cursor.specs.New.{refusedNew, placed, newFrom, newBy, newOf}
 use Rattle.cursor.specs.Next.{answerTo, placesBy, putBy, movedBy, nextBy, nextOf, nextKey, nextValue}
 use Rattle.cursor.specs.Pass.{lowestKey, lowestValue}

@@ -1,8 +1,8 @@
 -- The checks of the run ends and of the places: one turn of each loop. Assumes nothing.
-use mathlib.Core.Path.{_≡_, refl, sym, _∙_}
+use mathlib.Core.Path.{_≡_}
 use mathlib.Core.Bool.{Bool, true, false, _&&_}
-use mathlib.Core.List.{List, [], _∷_}
-use Prim.Native.Nat.{ℕ, zero, suc, _+_, _-_, _≤_, _<_}
+use mathlib.Core.List.{List}
+use Prim.Native.Nat.{ℕ, suc, _+_, _-_, _≤_, _<_}
 use native.Mathlib.Numerals.{add-one}
 use native.Mathlib.Omega.{arith}
 use lib.Dec.{leb}
@@ -11,7 +11,7 @@ use lib.Seq.{drop-cons}
 use borrow.Author.Tests.{leb-true, lt-leb, le-leb}
 use Rattle.types.specs.Build.{fileCount}
 use Rattle.types.proofs.TestLaws.{both-true}
-use Rattle.cursor.specs.Checks.{risingEnds, goodRuns, goodPlace, goodFrom, goodPlaces}
+use Rattle.cursor.specs.Checks.{risingEnds, goodRuns, goodPlace, goodFrom}
 use Rattle.cursor.specs.Places.{placeOf}
 use Rattle.cursor.specs.Runs.{endOf}
 use Rattle.cursor.specs.declared.place.RunPlace.{RunPlace}

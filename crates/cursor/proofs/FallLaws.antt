@@ -1,30 +1,28 @@
 -- A pass that finds a record leaves fewer bytes to the places that it steps on to, so that further passes end. Assumes
 -- nothing.
-use mathlib.Core.Path.{_≡_, refl, sym, _∙_, ap}
+use mathlib.Core.Path.{_≡_, refl}
 use mathlib.Core.Bool.{Bool, true, false}
 use mathlib.Core.List.{List}
 use mathlib.Core.Logic.{⊎-elim}
-use Prim.Native.Nat.{ℕ, zero, suc, _+_, _-_, _≤_, _<_, zero-le}
+use Prim.Native.Nat.{ℕ, zero, suc, _-_, _≤_, _<_, zero-le}
 use native.Mathlib.Nat.{le-refl}
 use native.Mathlib.Omega.{arith}
 use lib.ListN.{length, set}
 use Rattle.types.specs.Build.{fileCount}
 use Rattle.types.proofs.TestLaws.{eq-or-ne}
-use Rattle.run.specs.Records.{headAt}
 use Rattle.run.specs.declared.bound.Bound.{Bound}
 use Rattle.run.specs.declared.order.Ordering.{Ordering}
 use Rattle.run.specs.declared.record.Record.{Record}
 use Rattle.run.proofs.FitLaws.{head-lies}
 use Rattle.run.proofs.PartLaws.{part-fits}
-use Rattle.cursor.specs.Pass.{withGone, withHolder, withLowest, unseen, passOf}
+use Rattle.cursor.specs.Pass.{withGone, passOf}
 use Rattle.cursor.specs.Places.{gone, atPlace, placeOf}
 use Rattle.cursor.specs.Runs.{startOf, endOf, runOf}
 use Rattle.cursor.specs.Settle.{isHidden, leftAt, leftOf, sumTo, left}
 use Rattle.cursor.specs.declared.look.Lowest.{Lowest}
 use Rattle.cursor.specs.declared.look.Lowest.the-variants.{None, Found, Refused}
 use Rattle.cursor.specs.declared.pass.Pass.{Pass}
-use Rattle.cursor.specs.declared.place.Place.{Place}
-use Rattle.cursor.specs.declared.place.Place.the-variants.{At, Gone}
+use Rattle.cursor.specs.declared.place.Place.the-variants.{At}
 use Rattle.cursor.specs.declared.place.RunPlace.{RunPlace}
 use Rattle.cursor.proofs.PassRule.{Sees, After, whole, cut, Kept, pass-rule}
 use Rattle.cursor.proofs.PlaceLaws.{set-other, set-gone, set-cases}

@@ -1,13 +1,13 @@
 -- What a pass finds, in document 01's words: of the lowest key the highest run decides, all runs holding it step on, and
 -- no other run moves. Assumes nothing.
-use mathlib.Core.Path.{_≡_, refl, sym, _∙_, ap}
+use mathlib.Core.Path.{_≡_, refl, sym, _∙_}
 use mathlib.Core.Bool.{false}
 use mathlib.Core.List.{List}
 use mathlib.Core.Logic.{_⊎_, inl, inr, ⊎-elim}
 use Prim.Native.Nat.{ℕ, suc, _≤_, _<_}
 use native.Mathlib.Nat.{le-refl}
 use native.Mathlib.Omega.{arith}
-use lib.ListN.{length, set}
+use lib.ListN.{set}
 use Rattle.types.proofs.TestLaws.{eq-or-ne}
 use Rattle.run.specs.Bounds.{isPast}
 use Rattle.run.specs.Keys.{compareKeys}
@@ -17,8 +17,8 @@ use Rattle.run.specs.declared.order.Ordering.{Ordering}
 use Rattle.run.specs.declared.order.Ordering.the-variants.{Less, Equal, Greater}
 use Rattle.run.specs.declared.record.Record.{Record}
 use Rattle.run.specs.declared.record.Head.the-variants as head
-use Rattle.run.proofs.OrderLaws.{turned, compare-itself, compare-equal, less-less, greater-less, less-greater}
-use Rattle.cursor.specs.Pass.{againstLowest, lowestKey, withGone, withHolder, withLowest, unseen, passOf}
+use Rattle.run.proofs.OrderLaws.{compare-itself, compare-equal, less-less, greater-less, less-greater}
+use Rattle.cursor.specs.Pass.{againstLowest, lowestKey, withGone, withHolder, withLowest, passOf}
 use Rattle.cursor.specs.Places.{gone, atPlace, placeOf}
 use Rattle.cursor.specs.Runs.{runOf}
 use Rattle.cursor.specs.declared.look.Lowest.{Lowest}
@@ -27,7 +27,7 @@ use Rattle.cursor.specs.declared.pass.Pass.{Pass}
 use Rattle.cursor.specs.declared.place.Place.{Place}
 use Rattle.cursor.specs.declared.place.Place.the-variants.{At, Gone}
 use Rattle.cursor.specs.declared.place.RunPlace.{RunPlace}
-use Rattle.cursor.proofs.PassRule.{standing, Sees, After, whole, cut, Kept, pass-rule}
+use Rattle.cursor.proofs.PassRule.{standing, Sees, After, Kept, pass-rule}
 use Rattle.cursor.proofs.PlaceLaws.{at-gone, set-other, set-gone, set-there}
 
 -- a key that is not below one stands above whatever is below that one

@@ -1,5 +1,5 @@
 -- One turn of a pass: what each look does to what is left of it. Assumes nothing.
-use mathlib.Core.Path.{_≡_, refl, sym, _∙_}
+use mathlib.Core.Path.{_≡_, _∙_}
 use mathlib.Core.List.{List}
 use Prim.Native.Nat.{ℕ, suc, _+_, _-_, _≤_, _<_}
 use native.Mathlib.Numerals.{add-one}
@@ -15,7 +15,6 @@ use Rattle.cursor.specs.Places.{atPlace, placeOf}
 use Rattle.cursor.specs.Runs.{startOf, endOf}
 use Rattle.cursor.specs.declared.look.Look.{Look}
 use Rattle.cursor.specs.declared.look.Look.the-variants as look
-use Rattle.cursor.specs.declared.look.Lowest.{Lowest}
 use Rattle.cursor.specs.declared.look.Lowest.the-variants as lowest
 use Rattle.cursor.specs.declared.pass.Pass.{Pass}
 use Rattle.cursor.specs.declared.place.RunPlace.{RunPlace}

@@ -1,5 +1,5 @@
 -- Where a run starts. Assumes nothing.
-use mathlib.Core.Path.{_≡_, refl, sym, ap}
+use mathlib.Core.Path.{_≡_, refl}
 use mathlib.Core.List.{List}
 use Prim.Native.Nat.{ℕ, zero, suc, _+_, _-_}
 use native.Mathlib.Numerals.{add-one}

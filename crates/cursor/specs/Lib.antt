@@ -1,5 +1,6 @@
 pub mod Answers
 pub mod Checks
+pub mod Merged
 pub mod New
 pub mod Next
 pub mod Pass
@@ -7,3 +8,4 @@ pub mod Places
 pub mod Runs
 pub mod Settle
 pub mod Starred
+pub mod Union

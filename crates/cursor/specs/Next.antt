@@ -1,7 +1,7 @@
 -- The next entry of the merge (document 01, 'Runs and merge', 'When a box says no'): its answer, the cursor after it, and
 -- the two lent buffers. Assumes nothing.
 use mathlib.Core.Bool.{cond}
-use mathlib.Core.List.{List, [], _++_}
+use mathlib.Core.List.{List, _++_}
 use Prim.Native.Nat.{ℕ}
 use lib.Dec.{ltb}
 use lib.ListN.{length, drop}

@@ -1,5 +1,5 @@
 -- Passes until the lowest key is not deleted (document 01, 'Runs and merge'). Assumes nothing.
-use mathlib.Core.Bool.{Bool, true, false, cond}
+use mathlib.Core.Bool.{Bool, false, cond}
 use mathlib.Core.List.{List}
 use Prim.Native.Nat.{ℕ, zero, suc, _+_, _-_}
 use Rattle.types.specs.Build.{fileCount}

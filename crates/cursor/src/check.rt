@@ -1,6 +1,5 @@
 // The checks before the work (document 01, 'When a box says no'): 10 for the run ends, then 11 for the places.
 ghost use mathlib.Core.Path.{_≡_};
-ghost use lib.ListN.{length};
 ghost use Rattle.cursor.specs.Checks.{goodRuns, goodPlace, goodPlaces, newCheck, nextCheck};
 use crate::place::Place;
 use crate::place::RunPlace;

@@ -17,7 +17,7 @@ use Rattle.run.specs.declared.record.Record.{Record}
 use Rattle.run.specs.declared.record.Head.{Head}
 use Rattle.run.specs.declared.record.Head.the-variants as head
 use Rattle.run.specs.declared.search.Sought.{Sought}
-use Rattle.run.specs.declared.search.Sought.the-variants.{Gone, At, Refused}
+use Rattle.run.specs.declared.search.Sought.the-variants.{At}
 use Rattle.run.proofs.bound.Bound as Bound'
 use Rattle.run.proofs.record.Head as Head'
 use Rattle.run.proofs.FitLaws.{Lies, head-lies}

@@ -1,6 +1,6 @@
 -- `cursor::pass::pass_over` meets its contract: what is left of the pass comes to the whole pass. Assumes nothing.
-use mathlib.Core.Path.{_≡_, refl, sym}
-use Prim.Native.Nat.{_-_, _≤_}
+use mathlib.Core.Path.{_≡_, refl}
+use Prim.Native.Nat.{_-_}
 use native.Mathlib.Omega.{arith}
 use lib.ListN.{length}
 use borrow.Author.Needs.{needs}

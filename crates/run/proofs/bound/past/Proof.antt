@@ -1,5 +1,4 @@
 -- `run::bound::past` meets its contract. Assumes nothing.
-use mathlib.Core.Path.{_≡_}
 use borrow.Author.Needs.{needs}
 use Rattle.run.specs.Bounds.{pastBy}
 use Rattle.run.proofs.bound.past.Statement.{statement}

@@ -1,6 +1,4 @@
 -- `run::record::body` meets its contract. Assumes nothing.
-use mathlib.Core.Path.{sym}
-use native.Mathlib.Omega.{arith}
 use borrow.Author.Needs.{needs}
 use Rattle.run.specs.Records.{recordHeaderSize}
 use Rattle.run.proofs.RecordLaws.{body-long-key, body-long-value, body-cut-off, body-whole}

@@ -1,7 +1,7 @@
 -- `run::search::search` meets its contract: the search from the position reached comes to the whole search's answer. Assumes
 -- nothing.
-use mathlib.Core.Path.{refl, sym, _∙_, ap}
-use Prim.Native.Nat.{ℕ, suc, _-_}
+use mathlib.Core.Path.{_∙_, ap}
+use Prim.Native.Nat.{suc, _-_}
 use native.Mathlib.Omega.{arith}
 use lib.ListN.{length}
 use borrow.Author.Needs.{needs}
