@@ -1,7 +1,12 @@
 pub mod CheckLaws
+pub mod CleanLaws
 pub mod CommitLaws
 pub mod GroupLaws
 pub mod HeadingLaws
 pub mod OpeningLaws
 pub mod OutcomeLaws
+pub mod PlaceLaws
+pub mod PlacedLaws
+pub mod RangeLaws
+pub mod StoreLaws
 pub mod WriteLaws

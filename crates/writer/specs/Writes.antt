@@ -35,6 +35,10 @@ completes w n = not (eqb (lacking w) 0) && leb (lacking w) n
 abbrev pub toWhole : PageWriter → ℕ → ℕ
 toWhole w n = (n - toGroup w n) / align * align
 
+-- and where those lie
+abbrev pub wholeAt : PageWriter → ℕ → ℕ
+wholeAt w n = payloadFrom w (w .pending + toGroup w n)
+
 -- ---- the bytes themselves
 
 -- the group buffer with the first bytes in it
@@ -80,7 +84,7 @@ closed w = cond (isFull w) (nextChunk w) w
 unfoldable pub payloadOps : PageWriter → List ℕ → List Op
 payloadOps w bytes =
     opIf (completes w (length bytes)) (store (groupAt w) (groupOf w bytes))
-    ++ opIf (not (eqb (toWhole w (length bytes)) 0)) (store (payloadFrom w (w .pending + toGroup w (length bytes))) (wholeOf w bytes))
+    ++ opIf (not (eqb (toWhole w (length bytes)) 0)) (store (wholeAt w (length bytes)) (wholeOf w bytes))
 
 -- all the operations
 unfoldable pub takingOps : ℕ → PageWriter → List ℕ → List Op

@@ -1,0 +1,11 @@
+pub mod GroupLaws
+pub mod AddingLaws
+pub mod ClosingLaws
+pub mod AdditionLaws
+pub mod PageCutLaws
+pub mod CallLaws
+pub mod CutLaws
+pub mod GoodLaws
+pub mod CutPage
+pub mod ErasedLaws
+pub mod HistoryLaws

@@ -1,0 +1,78 @@
+-- Adding one chunk to a page, call by call: open_append, writes of pieces until there are no more or one fills the chunk, then a
+-- commit. Each call gets what the one before it left, by the definitions that the calls promise. Assumes nothing.
+use mathlib.Core.Bool.{Bool, cond}
+use mathlib.Core.List.{List, [], _∷_, _++_}
+use Prim.Native.Nat.{ℕ}
+use lib.ListN.{length}
+use Rattle.types.specs.declared.page_id.PageID.{PageID}
+use Rattle.flash.specs.Operations.{Op}
+use Rattle.writer.specs.Commits.{commitOps}
+use Rattle.writer.specs.Openings.{appended}
+use Rattle.writer.specs.Outcomes.{ended, endedFlash}
+use Rattle.writer.specs.Verdicts.{writerVerdict}
+use Rattle.writer.specs.Writes.{takenOf, grown, isFull, writeOps, written}
+use Rattle.writer.specs.declared.answers.Ended.{Ended}
+use Rattle.writer.specs.declared.answers.Opening.{Opening}
+use Rattle.writer.specs.declared.answers.Opening.the-variants as opening
+use Rattle.writer.specs.declared.answers.Outcome.{Outcome}
+use Rattle.writer.specs.declared.answers.Outcome.the-variants.{Done, Refused}
+use Rattle.writer.specs.declared.page_writer.PageWriter.{PageWriter}
+
+-- ---- the calls
+
+-- what a write hands back, and the flash after it
+abbrev pub wrote : ℕ → PageWriter → List ℕ → ℕ → List ℕ → Ended
+wrote e w bytes left xs = ended (writerVerdict (length xs) w) (writeOps e w bytes) (written w bytes) w left
+
+abbrev pub wroteFlash : ℕ → PageWriter → List ℕ → ℕ → List ℕ → List ℕ
+wroteFlash e w bytes left xs = endedFlash (writerVerdict (length xs) w) (writeOps e w bytes) w left xs
+
+-- the flash after a commit
+abbrev pub commitFlash : ℕ → PageWriter → ℕ → List ℕ → List ℕ
+commitFlash e w left xs = endedFlash (writerVerdict (length xs) w) (commitOps e w) w left xs
+
+-- whether a write of these bytes fills the chunk, and so commits it
+abbrev pub fills : PageWriter → List ℕ → Bool
+fills w bytes = isFull (grown w (takenOf w bytes))
+
+-- a refused call is the last
+abbrev pub goOn : Outcome → List ℕ → List ℕ → List ℕ
+goOn Done further stopped = further
+goOn (Refused why) further stopped = stopped
+
+-- the flash after writes of the pieces and a commit
+unfoldable pub afterWrites : ℕ → List (List ℕ) → PageWriter → ℕ → List ℕ → List ℕ
+afterWrites e [] w left xs = commitFlash e w left xs
+afterWrites e (bytes ∷ pieces) w left xs =
+    goOn (wrote e w bytes left xs .answer)
+    (cond (fills w bytes) (wroteFlash e w bytes left xs)
+    (afterWrites e pieces (wrote e w bytes left xs .writer) (wrote e w bytes left xs .left) (wroteFlash e w bytes left xs)))
+    (wroteFlash e w bytes left xs)
+
+abbrev pub opened : Opening → List ℕ → List ℕ → List ℕ
+opened opening.Open further stopped = further
+opened (opening.Refused why) further stopped = stopped
+
+-- the flash after all of it, where k stores may be made
+unfoldable pub added : ℕ → List ℕ → PageID → ℕ → PageWriter → ℕ → List (List ℕ) → List ℕ
+added e xs page h w k pieces =
+    opened (appended e xs page h w k .answer) (afterWrites e pieces (appended e xs page h w k .writer) (appended e xs page h w k .left) xs) xs
+
+-- ---- what they owe and take in all
+
+-- the operations
+unfoldable pub additionOps : ℕ → PageWriter → List (List ℕ) → List Op
+additionOps e w [] = commitOps e w
+additionOps e w (bytes ∷ pieces) = writeOps e w bytes ++ cond (fills w bytes) [] (additionOps e (written w bytes) pieces)
+
+-- the bytes that are taken
+unfoldable pub addition : PageWriter → List (List ℕ) → List ℕ
+addition w [] = []
+addition w (bytes ∷ pieces) = takenOf w bytes ++ cond (fills w bytes) [] (addition (written w bytes) pieces)
+
+-- the payload of the chunk that an addition makes, and how many stores and erases it takes
+abbrev pub newPayload : ℕ → List ℕ → PageID → ℕ → PageWriter → ℕ → List (List ℕ) → List ℕ
+newPayload e xs page h w k pieces = addition (appended e xs page h w k .writer) pieces
+
+abbrev pub storeCount : ℕ → List ℕ → PageID → ℕ → PageWriter → ℕ → List (List ℕ) → ℕ
+storeCount e xs page h w k pieces = length (additionOps e (appended e xs page h w k .writer) pieces)

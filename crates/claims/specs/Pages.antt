@@ -1,0 +1,45 @@
+-- A good page, and what is on it (document 01, demand 3): a good header, and only whole chunks that are not empty and whose
+-- sums are right. What stands behind them may be anything. Assumes nothing.
+use mathlib.Core.Path.{_≡_}
+use mathlib.Core.Bool.{true}
+use mathlib.Core.List.{List, [], _∷_, map}
+use Prim.Native.Nat.{ℕ, _+_, _<_}
+use lib.ListN.{length}
+use Rattle.types.specs.Build.{pageSize, pageHeaderSize}
+use Rattle.types.specs.Bytes.{Bytes}
+use Rattle.crc.specs.Published.{published}
+use Rattle.page.specs.Chunks.{payloadAt}
+use Rattle.page.specs.Headers.{headerFine, pageHeaderFine}
+use Rattle.page.specs.Walks.{Chunk, walkFrom}
+use Rattle.page.specs.declared.walk.Ending.the-variants.{EndAt}
+
+-- a chunk's payload on a page
+abbrev pub payloadOf : List ℕ → Chunk → List ℕ
+payloadOf page c = payloadAt page (c .offset) (c .len)
+
+-- a chunk that is not empty and whose sum is right
+pub record Right (page : List ℕ) (c : Chunk) : Type 0 where
+  pub some : 0 < c .len
+  pub sum : published (payloadOf page c) ≡ c .crc
+
+-- each of these chunks is
+abbrev pub AllRight : List ℕ → List Chunk → Type 0
+AllRight page [] = Unit
+AllRight page (c ∷ cs) = Right page c × AllRight page cs
+
+-- page number p with this magic and h bytes of higher header, whose chunks end at o
+pub record Good (magic p h o : ℕ) (page : List ℕ) : Type 0 where
+  pub whole : length page ≡ pageSize
+  pub length-fine : headerFine h ≡ true
+  pub header : pageHeaderFine page magic p h ≡ true
+  pub ends : walkFrom page (pageHeaderSize + h) .ending ≡ EndAt o
+  pub chunks : AllRight page (walkFrom page (pageHeaderSize + h) .chunks)
+
+-- the payloads of its chunks, in their order
+abbrev pub payloads : List ℕ → ℕ → List (List ℕ)
+payloads page h = map (payloadOf page) (walkFrom page (pageHeaderSize + h) .chunks)
+
+-- pieces of bytes
+abbrev pub AllBytes : List (List ℕ) → Type 0
+AllBytes [] = Unit
+AllBytes (bytes ∷ pieces) = Bytes bytes × AllBytes pieces

@@ -1,0 +1,1 @@
+// No code: what the definitions come to.

@@ -1,0 +1,178 @@
+-- A state in range stays in range, whatever the call, and opening gives one. Assumes nothing.
+use mathlib.Core.Path.{_≡_, refl, sym, ap, _∙_}
+use mathlib.Core.Bool.{Bool, true, false, cond}
+use mathlib.Core.List.{List}
+use mathlib.Core.Logic.{⊎-elim}
+use Prim.Native.Nat.{ℕ, _+_, _-_, _*_, _/_, _%_, _≤_, _<_, min}
+use native.Mathlib.Omega.{arith}
+use lib.Dec.{eqb, ltb}
+use lib.ListN.{length, drop, length-take}
+use borrow.Author.Tests.{eq-eqb, ne-eqb, eqb-true, eqb-false, ltb-true}
+use Rattle.types.specs.Build.{pageSize, align, maxPageCount, maxChunkSize}
+use Rattle.types.specs.declared.page_id.PageID.{PageID}
+use Rattle.types.specs.declared.refusal.Verdict.{Verdict}
+use Rattle.types.specs.declared.refusal.Verdict.the-variants as verdict
+use Rattle.types.proofs.TestLaws.{decided, eq-or-ne}
+use Rattle.flash.specs.Geometry.{flashFine, hasPage, pageCount, pageOf}
+use Rattle.flash.specs.Operations.{Op, spent}
+use Rattle.flash.proofs.GeometryLaws.{fine-whole}
+use Rattle.page.specs.Headers.{headerFine}
+use Rattle.page.specs.Walks.{walkEnd, allErased}
+use Rattle.page.specs.declared.walk.Ending.{Ending}
+use Rattle.page.specs.declared.walk.Ending.the-variants.{EndAt, Corrupted}
+use Rattle.page.proofs.LaidLaws.{walk-ended}
+use Rattle.writer.specs.Commits.{nextChunk, committed}
+use Rattle.writer.specs.Headings.{headed}
+use Rattle.writer.specs.Openings.{openAs, openedAfter, opened, resumeAt, appendedAt, appended}
+use Rattle.writer.specs.Outcomes.{ended}
+use Rattle.writer.specs.States.{firstChunk, mostPending, inRange, fresh, newWriter}
+use Rattle.writer.specs.Verdicts.{openVerdict}
+use Rattle.writer.specs.Writes.{takes, grown, isFull, closed, takenOf, written}
+use Rattle.writer.specs.declared.answers.Opened.{Opened}
+use Rattle.writer.specs.declared.answers.Opening.the-variants.{Open, Refused}
+use Rattle.writer.specs.declared.page_writer.PageWriter.{PageWriter}
+use Rattle.writer.proofs.CheckLaws.{Sound, sound, sound-range, header-facts, open-passed}
+
+-- ---- write and commit
+
+next-sound : (w : PageWriter) → Sound w → (w .pending ≡ 0 → ⊥) → Sound (nextChunk w)
+next-sound w s n =
+    let fits = next-fits (w .h) (w .offset) (w .pending) (w .total) (s .after) (s .within) (s .room) (s .old) n in
+    record { header = s .header; low = s .low; even = omega arith; after = fits .0; within = fits .1 .0; room = omega arith; old = fits .1 .1 }
+  where
+    next-fits : (h o p t : ℕ) → 12 + h ≤ o → o ≤ 4096 → p ≤ min 4076 (4096 - 8 - o) → t ≤ o - (12 + h) + p → (p ≡ 0 → ⊥)
+        → (12 + h ≤ (o + 8 + p + 3) / 4 * 4) × (((o + 8 + p + 3) / 4 * 4 ≤ 4096) × (t ≤ (o + 8 + p + 3) / 4 * 4 - (12 + h) + 0))
+    next-fits h o p t a b c d n =
+        let r : o + 8 + p ≤ 4096 = omega arith in
+        (omega arith, (omega arith, omega arith))
+
+pub commit-sound : (w : PageWriter) → Sound w → Sound (committed w)
+commit-sound w s =
+    ⊎-elim
+    (λ (z : w .pending ≡ 0). rw (eq-eqb (w .pending) 0 z) s)
+    (λ (n : w .pending ≡ 0 → ⊥). rw (ne-eqb (w .pending) 0 n) (next-sound w s n))
+    (eq-or-ne (w .pending) 0)
+
+-- what is taken has room
+pub taken-room : (w : PageWriter) (bytes : List ℕ) → (takes (length bytes) w ≡ 0 → ⊥)
+    → w .pending + length (takenOf w bytes) ≤ mostPending (w .offset)
+taken-room w bytes n =
+    let o = w .offset in
+    let p = w .pending in
+    let t = takes (length bytes) w in
+    let q = parts (length bytes) (4096 - (o + 8 + p)) (4076 - p) t refl in
+    let r = sums o p t (q .0) (q .1) n in
+    rw length-take (least o p (length bytes) t (r .0) (r .1))
+  where
+    parts : (l a b t : ℕ) → t ≡ min l (min a b) → (t ≤ a) × (t ≤ b)
+    parts l a b t e = (omega arith, omega arith)
+
+    sums : (o p t : ℕ) → t ≤ 4096 - (o + 8 + p) → t ≤ 4076 - p → (t ≡ 0 → ⊥) → (o + 8 + p + t ≤ 4096) × (p + t ≤ 4076)
+    sums o p t a b n = (omega arith, omega arith)
+
+    least : (o p l t : ℕ) → o + 8 + p + t ≤ 4096 → p + t ≤ 4076 → p + min t l ≤ min 4076 (4096 - 8 - o)
+    least o p l t f g = omega arith
+
+-- and is some
+pub taken-some : (w : PageWriter) (bytes : List ℕ) → (takes (length bytes) w ≡ 0 → ⊥) → w .pending + length (takenOf w bytes) ≡ 0 → ⊥
+taken-some w bytes n z = n (least (length bytes) (w .pending) (takes (length bytes) w) (omega arith) (rw length-take at z))
+  where
+    least : (l p t : ℕ) → t ≤ l → p + min t l ≡ 0 → t ≡ 0
+    least l p t h e = omega arith
+
+grown-sound : (w : PageWriter) (bytes : List ℕ) → Sound w → w .pending + length bytes ≤ mostPending (w .offset) → Sound (grown w bytes)
+grown-sound w bytes s r =
+    record { header = s .header; low = s .low; even = s .even; after = s .after; within = s .within; room = r; old = omega (arith, s .old) }
+
+closed-sound : (w : PageWriter) → Sound w → Sound (closed w)
+closed-sound w s =
+    ⊎-elim
+    (λ (f : isFull w ≡ true). rw f (next-sound w s (λ (z : w .pending ≡ 0). let g : w .pending ≡ 4076 = eqb-true (w .pending) 4076 f in omega arith)))
+    (λ (f : isFull w ≡ false). rw f s)
+    (decided (isFull w))
+
+pub write-sound : (w : PageWriter) (bytes : List ℕ) → Sound w → Sound (written w bytes)
+write-sound w bytes s =
+    ⊎-elim
+    (λ (z : takes (length bytes) w ≡ 0). rw (eq-eqb (takes (length bytes) w) 0 z) s)
+    (λ (n : takes (length bytes) w ≡ 0 → ⊥).
+    rw (ne-eqb (takes (length bytes) w) 0 n) (closed-sound (grown w (takenOf w bytes)) (grown-sound w (takenOf w bytes) s (taken-room w bytes n))))
+    (eq-or-ne (takes (length bytes) w) 0)
+
+pub commit-range : (w : PageWriter) → inRange w ≡ true → inRange (committed w) ≡ true
+commit-range w r = sound-range (committed w) (commit-sound w (sound w r))
+
+pub write-range : (w : PageWriter) (bytes : List ℕ) → inRange w ≡ true → inRange (written w bytes) ≡ true
+write-range w bytes r = sound-range (written w bytes) (write-sound w bytes (sound w r))
+
+pub heading-range : (w : PageWriter) → inRange (headed w) ≡ inRange w
+unfolding inRange
+heading-range w = refl
+
+-- whatever a call hands back that owes operations: refused, cut or done
+pub ended-range : (v : Verdict) (ops : List Op) (next w : PageWriter) (left : ℕ) → inRange w ≡ true → inRange next ≡ true
+    → inRange (ended v ops next w left .writer) ≡ true
+ended-range (verdict.Refused why) ops next w left r n = r
+ended-range verdict.Fine ops next w left r n = either (spent left ops .ok) next w n r
+  where
+    either : (t : Bool) (a b : PageWriter) → inRange a ≡ true → inRange b ≡ true → inRange (cond t a b) ≡ true
+    either true a b p q = p
+    either false a b p q = q
+
+-- ---- new, open and open_append
+
+pub fresh-range : (armed : Bool) (page : PageID) (h o : ℕ) → headerFine h ≡ true → page .0 < maxPageCount → o % align ≡ 0 → firstChunk h ≤ o → o ≤ pageSize
+    → inRange (fresh armed page h o) ≡ true
+fresh-range armed page h o f p a b c =
+    sound-range (fresh armed page h o) (record { header = f; low = p; even = a; after = b; within = c; room = omega arith; old = omega arith })
+
+pub new-range : inRange newWriter ≡ true
+unfolding inRange
+new-range = refl
+
+page-low : (n p : ℕ) → flashFine n ≡ true → hasPage n p ≡ true → p < maxPageCount
+page-low n p f t = omega (arith, ltb-true p (pageCount n) t, fine-whole n f)
+
+open-fresh : (n : ℕ) (page : PageID) (h o : ℕ) (armed : Bool) → openVerdict n (page .0) h ≡ verdict.Fine → o % align ≡ 0 → firstChunk h ≤ o → o ≤ pageSize
+    → inRange (fresh armed page h o) ≡ true
+open-fresh n page h o armed e a b c =
+    let p = open-passed n (page .0) h e in
+    fresh-range armed page h o (p .1 .0) (page-low n (page .0) (p .0) (p .1 .1)) a b c
+
+-- the first chunk's place is one to go on at
+first-place : (n p h : ℕ) → openVerdict n p h ≡ verdict.Fine → (firstChunk h % align ≡ 0) × (firstChunk h ≤ pageSize)
+first-place n p h e = let f = header-facts h (open-passed n p h e .1 .0) in (omega arith, omega arith)
+
+pub open-range : (xs : List ℕ) (page : PageID) (h : ℕ) (w : PageWriter) (left : ℕ) → opened xs page h w left .answer ≡ Open → inRange (opened xs page h w left .writer) ≡ true
+unfolding opened
+open-range xs page h w left = by (openVerdict (length xs) (page .0) h) refl
+  where
+    by : (v : Verdict) → openVerdict (length xs) (page .0) h ≡ v → openedAfter v w left (openAs (fresh true page h (firstChunk h)) left) .answer ≡ Open
+        → inRange (openedAfter v w left (openAs (fresh true page h (firstChunk h)) left) .writer) ≡ true
+    by (verdict.Refused why) e a = let z : _≡_ {A = ℕ} 0 1 = cc in absurd (omega arith)
+    by verdict.Fine e a = let f = first-place (length xs) (page .0) h e in open-fresh (length xs) page h (firstChunk h) true e (f .0) (omega arith) (f .1)
+
+-- where adding goes on: the end of the walk, or the page's end
+resume-place : (e h o : ℕ) (bytes : List ℕ) → o % align ≡ 0 → firstChunk h ≤ o → o ≤ pageSize
+    → (resumeAt e bytes o % align ≡ 0) × ((firstChunk h ≤ resumeAt e bytes o) × (resumeAt e bytes o ≤ pageSize))
+resume-place e h o bytes a b c = by (allErased e (drop o bytes))
+  where
+    by : (t : Bool) → (cond t o pageSize % align ≡ 0) × ((firstChunk h ≤ cond t o pageSize) × (cond t o pageSize ≤ pageSize))
+    by true = (a, (b, c))
+    by false = (refl, (omega arith, omega arith))
+
+pub append-range : (e : ℕ) (xs : List ℕ) (page : PageID) (h : ℕ) (w : PageWriter) (left : ℕ) → appended e xs page h w left .answer ≡ Open
+    → inRange (appended e xs page h w left .writer) ≡ true
+unfolding appended
+append-range e xs page h w left = by (openVerdict (length xs) (page .0) h) refl (walkEnd (pageOf (page .0) xs) (firstChunk h)) refl
+  where
+    by : (v : Verdict) → openVerdict (length xs) (page .0) h ≡ v → (end : Ending) → walkEnd (pageOf (page .0) xs) (firstChunk h) ≡ end
+        → openedAfter v w left (appendedAt e (pageOf (page .0) xs) page h w left end) .answer ≡ Open
+        → inRange (openedAfter v w left (appendedAt e (pageOf (page .0) xs) page h w left end) .writer) ≡ true
+    by (verdict.Refused why) p end q a = let z : _≡_ {A = ℕ} 0 1 = cc in absurd (omega arith)
+    by verdict.Fine p Corrupted q a = let z : _≡_ {A = ℕ} 0 1 = cc in absurd (omega arith)
+    by verdict.Fine p (EndAt o) q a =
+        let f = first-place (length xs) (page .0) h p in
+        let t = walk-ended (pageOf (page .0) xs) (firstChunk h) o q in
+        let r = resume-place e h o (pageOf (page .0) xs) (t .group (f .0)) (t .up) (t .within (f .1)) in
+        open-fresh (length xs) page h (resumeAt e (pageOf (page .0) xs) o) false p (r .0) (r .1 .0) (r .1 .1)
