@@ -1,12 +1,12 @@
 -- A chunk in the making: what the writer holds and what the page holds add up to the bytes taken so far. Assumes nothing.
 use mathlib.Core.Path.{_≡_, refl, sym, ap, ap₂, _∙_}
 use mathlib.Core.Bool.{Bool, true, false, not, _&&_}
-use mathlib.Core.List.{List, [], _∷_, _++_, append-assoc, append-nil}
+use mathlib.Core.List.{List, [], _++_, append-assoc, append-nil}
 use mathlib.Core.Logic.{⊎-elim}
-use Prim.Native.Nat.{ℕ, zero, suc, _+_, _-_, _*_, _/_, _%_, _≤_, _<_, min}
-use native.Mathlib.Nat.{add-zero, zero-add}
+use Prim.Native.Nat.{ℕ, zero, suc, _+_, _-_, _*_, _/_, _%_, _≤_, _<_}
+use native.Mathlib.Nat.{zero-add}
 use native.Mathlib.Omega.{arith}
-use lib.Dec.{eqb, leb}
+use lib.Dec.{eqb}
 use lib.ListN.{length, take, drop, length-append, length-take, length-drop, take-append-drop, drop-of-length-le}
 use lib.Seq.{take-all, drop-drop}
 use borrow.Author.Tests.{eq-eqb, ne-eqb, le-leb, lt-leb}
@@ -15,14 +15,12 @@ use Rattle.types.specs.declared.page_id.PageID.{PageID}
 use Rattle.types.proofs.TestLaws.{le-or-lt, eq-or-ne}
 use Rattle.crc.specs.Register.{preset, updated}
 use Rattle.crc.proofs.RegisterLaws.{crc-append}
-use Rattle.flash.specs.Operations.{Op, store, opIf, made, applied}
+use Rattle.flash.specs.Operations.{store, opIf, made, applied}
 use Rattle.flash.specs.Patch.{over, patch}
 use Rattle.flash.proofs.PatchLaws.{length-over, length-patch, patch-none}
-use Rattle.flash.proofs.OperationLaws.{applied-append}
-use Rattle.writer.specs.Commits.{inGroup, payloadFrom, groupAt}
-use Rattle.writer.specs.Writes.{lacking, toGroup, completes, toWhole, groupOf, wholeOf, bufferOf, payloadOps, grown}
+use Rattle.writer.specs.Writes.{lacking, toGroup, completes, toWhole, groupOf, bufferOf, payloadOps, grown}
 use Rattle.writer.specs.declared.page_writer.PageWriter.{PageWriter}
-use Rattle.claims.proofs.GroupLaws.{wholes, rest, length-rest, over-take, patch-take, wholes-even, rest-even, wholes-short, rest-short, wholes-take, group-stored, wholes-stored}
+use Rattle.claims.proofs.GroupLaws.{wholes, rest, length-rest, over-take, patch-take, rest-even, wholes-short, rest-short, wholes-take, group-stored, wholes-stored}
 
 -- a writer at offset o that has taken a payload
 abbrev pub holding : PageID → ℕ → ℕ → List ℕ → List ℕ → ℕ → PageWriter

@@ -1,10 +1,9 @@
 -- One chunk, added by any number of writes: its stores are in order, and its header is the last. Assumes nothing.
 use mathlib.Core.Path.{_≡_, refl, sym, ap, ap₂, _∙_}
-use mathlib.Core.Bool.{Bool, true, false, not, cond}
+use mathlib.Core.Bool.{Bool, true, false, cond}
 use mathlib.Core.List.{List, [], _∷_, _++_, append-assoc, append-nil}
 use mathlib.Core.Logic.{⊎-elim}
-use Prim.Native.Nat.{ℕ, zero, suc, _+_, _-_, _*_, _/_, _%_, _≤_, _<_, min}
-use native.Mathlib.Nat.{add-zero}
+use Prim.Native.Nat.{ℕ, _+_, _-_, _%_, _≤_, _<_}
 use native.Mathlib.Omega.{arith}
 use lib.Dec.{eqb}
 use lib.ListN.{length, take, length-append, length-take}
@@ -13,7 +12,7 @@ use Rattle.types.specs.Build.{pageSize, maxChunkSize}
 use Rattle.types.proofs.TestLaws.{eq-or-ne, decided}
 use Rattle.flash.specs.Operations.{Op, erase, opIf, applied}
 use Rattle.writer.specs.Commits.{chunkOps, nextChunk, commitOps}
-use Rattle.writer.specs.Writes.{takes, takenOf, payloadOps, grown, isFull, closeOps, takingOps, closed, writeOps, written}
+use Rattle.writer.specs.Writes.{takes, takenOf, payloadOps, grown, closeOps, takingOps, closed, writeOps, written}
 use Rattle.writer.specs.declared.page_writer.PageWriter.{PageWriter}
 use Rattle.claims.specs.Additions.{fills, additionOps, addition}
 use Rattle.claims.proofs.AddingLaws.{Adding, piece-added}

@@ -1,11 +1,11 @@
 -- The calls of an addition, one after the other, make the beginning of one list of operations. Assumes nothing.
-use mathlib.Core.Path.{_≡_, refl, sym, ap, ap₂, _∙_}
+use mathlib.Core.Path.{_≡_, refl, sym, ap, _∙_}
 use mathlib.Core.Bool.{Bool, true, false, cond}
 use mathlib.Core.List.{List, [], _∷_, _++_, append-nil}
 use mathlib.Core.Logic.{⊎-elim}
 use Prim.Native.Nat.{ℕ, _+_, _-_, _≤_, _<_}
 use native.Mathlib.Omega.{arith}
-use lib.Dec.{eqb, leb}
+use lib.Dec.{eqb}
 use lib.ListN.{length, take}
 use lib.Seq.{take-append-le}
 use borrow.Author.Tests.{le-leb, lt-leb}
@@ -15,7 +15,7 @@ use Rattle.types.specs.declared.page_id.PageID.{PageID}
 use Rattle.types.specs.declared.refusal.Verdict.{Verdict}
 use Rattle.types.specs.declared.refusal.Verdict.the-variants.{Fine}
 use Rattle.flash.specs.Geometry.{flashFine, hasPage, pageStart}
-use Rattle.flash.specs.Operations.{Op, applied, allowed, spent}
+use Rattle.flash.specs.Operations.{Op, applied, allowed}
 use Rattle.flash.proofs.OperationLaws.{applied-append, take-append}
 use Rattle.flash.proofs.PageLaws.{length-applied}
 use Rattle.writer.specs.States.{inRange}
@@ -26,7 +26,7 @@ use Rattle.writer.specs.Writes.{takes, takenOf, grown, isFull, writeOps, writte
 use Rattle.writer.specs.declared.answers.Outcome.the-variants.{Done, Refused}
 use Rattle.writer.specs.declared.page_writer.PageWriter.{PageWriter}
 use Rattle.writer.proofs.RangeLaws.{write-range}
-use Rattle.claims.specs.Additions.{wrote, wroteFlash, fills, goOn, afterWrites, additionOps}
+use Rattle.claims.specs.Additions.{fills, goOn, afterWrites, additionOps}
 
 -- ---- operations in two parts
 

@@ -1,30 +1,28 @@
 -- A chunk that is finished: every store but the last lies behind the place of its header, and the last is the header. Assumes nothing.
 use mathlib.Core.Path.{_≡_, refl, sym, ap, ap₂, subst, _∙_}
-use mathlib.Core.Bool.{Bool, true, false, not, cond}
+use mathlib.Core.Bool.{Bool, true, false, not}
 use mathlib.Core.List.{List, [], _∷_, _++_, append-assoc, append-nil}
 use mathlib.Core.Logic.{⊎-elim}
-use Prim.Native.Nat.{ℕ, zero, suc, _+_, _-_, _*_, _/_, _%_, _≤_, _<_, min}
-use native.Mathlib.Nat.{zero-add, add-zero}
+use Prim.Native.Nat.{ℕ, zero, suc, _+_, _-_, _%_, _≤_}
 use native.Mathlib.Omega.{arith}
 use lib.Dec.{eqb}
-use lib.ListN.{length, take, drop, length-append, length-take, length-drop, take-append-drop}
+use lib.ListN.{length, take, drop, length-append, length-drop, take-append-drop}
 use lib.Seq.{take-all}
-use borrow.Author.Tests.{eq-eqb, ne-eqb, eqb-true, eqb-false}
+use borrow.Author.Tests.{eq-eqb, ne-eqb}
 use Rattle.types.specs.Build.{pageSize, maxChunkSize}
 use Rattle.types.specs.declared.page_id.PageID.{PageID}
-use Rattle.types.proofs.TestLaws.{le-or-lt, eq-or-ne, decided}
+use Rattle.types.proofs.TestLaws.{eq-or-ne}
 use Rattle.crc.specs.Register.{preset, updated, finished}
-use Rattle.flash.specs.Operations.{Op, erase, store, opIf, made, applied}
+use Rattle.flash.specs.Operations.{Op, store, opIf, made, applied}
 use Rattle.flash.specs.Patch.{patch}
 use Rattle.flash.proofs.PageLaws.{opAt, opBytes, made-patch}
-use Rattle.flash.proofs.PatchLaws.{patch-join, patch-none, take-patch-below, length-patch}
+use Rattle.flash.proofs.PatchLaws.{patch-join, take-patch-below}
 use Rattle.flash.proofs.OperationLaws.{applied-append}
 use Rattle.page.specs.Chunks.{chunkHeader, alignUp}
-use Rattle.writer.specs.Commits.{groupAt, payloadFrom, chunkOps, commitOps}
-use Rattle.writer.specs.Writes.{takes, toGroup, toWhole, completes, groupOf, wholeOf, payloadOps, takenOf, grown, isFull, closeOps, closed, takingOps, writeOps, written}
+use Rattle.writer.specs.Commits.{groupAt, payloadFrom, chunkOps}
+use Rattle.writer.specs.Writes.{toGroup, toWhole, completes, groupOf, wholeOf, payloadOps}
 use Rattle.writer.specs.declared.page_writer.PageWriter.{PageWriter}
-use Rattle.claims.specs.Additions.{fills, additionOps, addition}
-use Rattle.claims.proofs.GroupLaws.{wholes, rest, length-wholes, length-rest}
+use Rattle.claims.proofs.GroupLaws.{wholes, rest, length-wholes}
 use Rattle.claims.proofs.AddingLaws.{holding, Adding, made-fit}
 
 -- ---- operations behind an offset

@@ -1,34 +1,26 @@
 -- What a cut leaves for a walk over the page, for any flash, page, higher header, pieces and number of stores. Assumes nothing.
-use mathlib.Core.Path.{_≡_, refl, sym, ap, ap₂, _∙_}
-use mathlib.Core.Bool.{Bool, true, false, cond, _&&_}
-use mathlib.Core.List.{List, [], _∷_, _++_}
+use mathlib.Core.Path.{_≡_, refl, sym, ap, _∙_}
+use mathlib.Core.Bool.{Bool, true, false, cond}
+use mathlib.Core.List.{List, []}
 use mathlib.Core.Logic.{⊎-elim}
-use Prim.Native.Nat.{ℕ, zero, suc, _+_, _-_, _*_, _/_, _%_, _≤_, _<_}
+use Prim.Native.Nat.{ℕ, _+_, _-_, _%_, _≤_, _<_}
 use native.Mathlib.Omega.{arith}
-use lib.Dec.{eqb, leb, ltb}
-use lib.ListN.{length, take, drop, getD, replicate}
-use borrow.Author.Tests.{eqb-true, leb-true, ltb-true}
-use Rattle.types.specs.Build.{pageSize, pageHeaderSize}
-use Rattle.types.specs.Bytes.{Bytes, word}
+use lib.ListN.{length, take, drop, replicate}
+use borrow.Author.Tests.{eqb-true, ltb-true}
+use Rattle.types.specs.Build.{pageSize}
 use Rattle.types.specs.declared.page_id.PageID.{PageID}
-use Rattle.types.specs.declared.refusal.Verdict.{Verdict}
-use Rattle.types.specs.declared.refusal.Verdict.the-variants.{Fine}
 use Rattle.types.proofs.TestLaws.{both-true, decided, le-or-lt}
-use Rattle.crc.specs.Published.{published}
-use Rattle.crc.specs.Register.{preset, updated}
-use Rattle.flash.specs.Geometry.{flashFine, hasPage, pageCount, pageStart, pageOf}
+use Rattle.crc.specs.Register.{updated}
+use Rattle.flash.specs.Geometry.{flashFine, hasPage, pageStart, pageOf}
 use Rattle.flash.specs.Operations.{Op, applied, allowed}
-use Rattle.flash.specs.Patch.{patch, blank, over}
-use Rattle.flash.proofs.GeometryLaws.{fine-whole, page-inside, length-page}
+use Rattle.flash.proofs.GeometryLaws.{page-inside, length-page}
 use Rattle.flash.proofs.PageLaws.{length-applied, page-applied}
 use Rattle.flash.proofs.PatchLaws.{patch-none}
-use Rattle.page.specs.Chunks.{chunkMagic, nextOffset}
 use Rattle.page.specs.Headers.{headerFine}
-use Rattle.page.specs.Walks.{walkFrom, walkEnd, allErased}
-use Rattle.page.specs.declared.walk.Ending.{Ending}
-use Rattle.page.specs.declared.walk.Ending.the-variants.{EndAt, Corrupted}
+use Rattle.page.specs.Walks.{walkFrom, allErased}
+use Rattle.page.specs.declared.walk.Ending.the-variants.{EndAt}
 use Rattle.page.proofs.LaidLaws.{walk-ended}
-use Rattle.writer.specs.Openings.{appended, appendedAt, openedAfter, resumeAt}
+use Rattle.writer.specs.Openings.{appended, appendedAt, resumeAt}
 use Rattle.writer.specs.States.{firstChunk, fresh, inRange}
 use Rattle.writer.specs.Verdicts.{openVerdict}
 use Rattle.writer.specs.declared.answers.Opened.{Opened}
@@ -36,12 +28,11 @@ use Rattle.writer.specs.declared.answers.Opening.the-variants.{Open}
 use Rattle.writer.specs.declared.page_writer.PageWriter.{PageWriter}
 use Rattle.writer.proofs.RangeLaws.{append-range}
 use Rattle.claims.specs.Additions.{added, opened, afterWrites, additionOps, addition}
-use Rattle.claims.proofs.GroupLaws.{wholes, rest}
-use Rattle.claims.proofs.AddingLaws.{holding, Adding}
+use Rattle.claims.proofs.AddingLaws.{Adding}
 use Rattle.claims.proofs.AdditionLaws.{addition-stored, addition-none}
 use Rattle.claims.proofs.CallLaws.{Going, calls-made}
 use Rattle.claims.proofs.ClosingLaws.{Stored}
-use Rattle.claims.proofs.PageCutLaws.{Room, walk-before, walk-after}
+use Rattle.claims.proofs.PageCutLaws.{Room}
 
 -- what an opening that is not refused for 5, 6 or 4 has shown
 pub record Shape (n p h : ℕ) : Type 0 where

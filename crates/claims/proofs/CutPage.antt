@@ -1,10 +1,10 @@
 -- A cut of an addition leaves a good page with the old payloads, or with those and the new one. Assumes nothing.
-use mathlib.Core.Path.{_≡_, refl, sym, ap, ap₂, subst, _∙_}
+use mathlib.Core.Path.{_≡_, sym, ap, subst, _∙_}
 use mathlib.Core.Bool.{Bool, true, false, cond}
 use mathlib.Core.List.{List, [], _∷_, _++_}
 use Prim.Native.Nat.{ℕ, zero, suc, _+_, _%_, _≤_, _<_}
 use native.Mathlib.Omega.{arith}
-use lib.ListN.{length, take, drop, getD, length-append}
+use lib.ListN.{length, take}
 use Rattle.types.specs.Build.{pageSize, pageHeaderSize}
 use Rattle.types.specs.Bytes.{Bytes, word}
 use Rattle.types.specs.declared.page_id.PageID.{PageID}
@@ -17,11 +17,11 @@ use Rattle.page.specs.Chunks.{chunkMagic, nextOffset}
 use Rattle.page.specs.Walks.{Chunk, walkFrom}
 use Rattle.writer.specs.Openings.{appended, resumeAt}
 use Rattle.writer.specs.States.{fresh}
-use Rattle.writer.specs.Writes.{takes, takenOf, grown, written}
+use Rattle.writer.specs.Writes.{takes, takenOf, written}
 use Rattle.writer.specs.declared.answers.Opened.{Opened}
 use Rattle.writer.specs.declared.page_writer.PageWriter.{PageWriter}
 use Rattle.claims.specs.Additions.{fills, addition, additionOps, added, newPayload, storeCount}
-use Rattle.claims.specs.Pages.{AllBytes, Good, Right, payloadOf, payloads}
+use Rattle.claims.specs.Pages.{AllBytes, Good, payloadOf, payloads}
 use Rattle.claims.proofs.ClosingLaws.{Stored}
 use Rattle.claims.proofs.CutLaws.{Shape, append-as, added-page, even, room, stored}
 use Rattle.claims.proofs.GoodLaws.{good-same, good-more}

@@ -1,13 +1,12 @@
 -- After a reopening every store of an addition, up to the cut, lies on bytes that read as erased just before it. Assumes nothing.
-use mathlib.Core.Path.{_≡_, refl, sym, ap, subst, _∙_}
+use mathlib.Core.Path.{_≡_}
 use mathlib.Core.Bool.{Bool, true, false, cond}
-use mathlib.Core.List.{List, [], _∷_, _++_}
-use Prim.Native.Nat.{ℕ, _%_}
+use mathlib.Core.List.{List, [], _∷_}
+use Prim.Native.Nat.{ℕ}
 use lib.ListN.{take}
 use Rattle.types.specs.declared.page_id.PageID.{PageID}
 use Rattle.flash.specs.Geometry.{pageOf}
-use Rattle.flash.specs.Operations.{Op, applied}
-use Rattle.writer.specs.Commits.{commitOps}
+use Rattle.flash.specs.Operations.{applied}
 use Rattle.writer.specs.Openings.{appended}
 use Rattle.writer.specs.States.{inRange}
 use Rattle.writer.specs.Writes.{writeOps, written}

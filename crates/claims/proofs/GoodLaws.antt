@@ -1,10 +1,9 @@
 -- A good page stays good, whatever is stored behind its chunks. Assumes nothing.
 use mathlib.Core.Path.{_≡_, refl, sym, ap, ap₂, subst, _∙_}
 use mathlib.Core.Bool.{true}
-use mathlib.Core.List.{List, [], _∷_, _++_, map, append-nil}
-use Prim.Native.Nat.{ℕ, _+_, _%_, _≤_, _<_}
+use mathlib.Core.List.{List, [], _∷_, _++_, map}
+use Prim.Native.Nat.{ℕ, _+_, _%_}
 use native.Mathlib.Omega.{arith}
-use lib.Dec.{eqb}
 use lib.ListN.{length, take}
 use borrow.Author.Tests.{eqb-true}
 use Rattle.types.specs.Build.{pageSize, pageHeaderSize}
@@ -12,10 +11,9 @@ use Rattle.types.proofs.TestLaws.{both-true}
 use Rattle.crc.specs.Published.{published}
 use Rattle.page.specs.Headers.{pageHeaderFine}
 use Rattle.page.specs.Walks.{Chunk, Walked, walkFrom}
-use Rattle.page.specs.declared.walk.Ending.{Ending}
 use Rattle.page.specs.declared.walk.Ending.the-variants.{EndAt}
 use Rattle.page.proofs.HeaderLaws.{header-below}
-use Rattle.page.proofs.LaidLaws.{All, Placed, endOf, laid-placed, walk-laid, walk-ends-at, walk-ended}
+use Rattle.page.proofs.LaidLaws.{All, Placed, laid-placed, walk-laid, walk-ends-at, walk-ended}
 use Rattle.page.proofs.OntoLaws.{payload-below}
 use Rattle.claims.specs.Pages.{payloadOf, Right, AllRight, Good, payloads}
 

@@ -1,16 +1,14 @@
 -- Bytes that come in pieces and are stored in groups of 4 are stored in their order. Plain lists: what is stored is the whole
 -- groups of all bytes so far, and the rest stands at the group buffer's start. Assumes nothing.
 use mathlib.Core.Path.{_≡_, refl, sym, ap, ap₂, _∙_}
-use mathlib.Core.List.{List, [], _∷_, _++_, append-assoc, append-nil}
-use mathlib.Core.Logic.{⊎-elim}
-use Prim.Native.Nat.{ℕ, zero, suc, _+_, _-_, _*_, _/_, _%_, _≤_, _<_, min}
-use native.Mathlib.Nat.{add-zero, zero-add, add-assoc, sub-zero}
+use mathlib.Core.List.{List, [], _∷_, _++_, append-assoc}
+use Prim.Native.Nat.{ℕ, zero, suc, _+_, _-_, _*_, _/_, _%_, _≤_, _<_}
+use native.Mathlib.Nat.{zero-add}
 use native.Mathlib.Omega.{arith}
-use lib.ListN.{length, take, drop, length-append, length-take, length-drop, take-append-drop, drop-of-length-le}
-use lib.Seq.{take-all, take-append-le, drop-append-le, take-append-add, drop-append-add, take-add, drop-drop, take-take, take-at, drop-at, take-nil}
-use Rattle.types.proofs.TestLaws.{le-or-lt}
+use lib.ListN.{length, take, drop, length-append, length-take, length-drop, take-append-drop}
+use lib.Seq.{take-all, take-append-le, drop-append-le, take-append-add, drop-append-add}
 use Rattle.flash.specs.Patch.{over, patch}
-use Rattle.flash.proofs.PatchLaws.{length-patch, patch-join, patch-none}
+use Rattle.flash.proofs.PatchLaws.{length-patch, patch-join}
 
 -- ---- the whole groups of a list, and the rest
 

@@ -1,12 +1,12 @@
 -- What a cut leaves on the page, while one chunk is stored at the end of the others. Assumes nothing.
-use mathlib.Core.Path.{_≡_, refl, sym, ap, ap₂, subst, _∙_}
+use mathlib.Core.Path.{_≡_, refl, sym, ap, _∙_}
 use mathlib.Core.Bool.{true}
 use mathlib.Core.List.{List, [], _∷_, _++_}
 use mathlib.Core.Logic.{_⊎_, inl, inr, ⊎-elim}
-use Prim.Native.Nat.{ℕ, zero, suc, _+_, _-_, _*_, _/_, _%_, _^_, _≤_, _<_, min}
+use Prim.Native.Nat.{ℕ, zero, suc, _+_, _-_, _%_, _≤_, _<_}
 use native.Mathlib.Nat.{sub-zero, zero-sub, suc-sub-suc, le-of-suc-le-suc, not-suc-le-zero}
 use native.Mathlib.Omega.{arith}
-use lib.ListN.{length, take, drop, length-append, length-take, length-drop}
+use lib.ListN.{length, take, drop, length-append, length-drop}
 use lib.Seq.{take-all, take-take, take-append-le, take-at, drop-drop}
 use Rattle.types.specs.Build.{pageSize, maxChunkSize}
 use Rattle.types.specs.Bytes.{Bytes, word}
@@ -17,8 +17,8 @@ use Rattle.crc.proofs.DividesLaws.{register-is-published}
 use Rattle.flash.specs.Operations.{Op, store, made, applied}
 use Rattle.flash.specs.Patch.{patch, blank}
 use Rattle.flash.proofs.OperationLaws.{applied-append}
-use Rattle.flash.proofs.PatchLaws.{length-patch, part-patch, take-patch-below, drop-patch-above, length-blank}
-use Rattle.page.specs.Chunks.{alignUp, chunkMagic, chunkHeader, nextOffset, chunkAt, payloadAt, checkedAt}
+use Rattle.flash.proofs.PatchLaws.{length-patch, part-patch, take-patch-below, drop-patch-above}
+use Rattle.page.specs.Chunks.{alignUp, chunkMagic, chunkHeader, nextOffset, chunkAt, payloadAt}
 use Rattle.page.specs.Walks.{walkFrom, allErased}
 use Rattle.page.specs.declared.chunk.Step.the-variants as step
 use Rattle.page.specs.declared.walk.Ending.the-variants.{EndAt}

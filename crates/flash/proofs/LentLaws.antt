@@ -2,14 +2,13 @@
 use mathlib.Core.Path.{_≡_, refl, sym, ap, ap₂, _∙_}
 use mathlib.Core.List.{List, [], _∷_, _++_, append-nil}
 use mathlib.Core.Logic.{⊎-elim}
-use Prim.Native.Nat.{ℕ, zero, suc, _+_, _-_, _*_, _≤_, _<_, min}
+use Prim.Native.Nat.{ℕ, zero, suc, _+_, _-_, _≤_, _<_, min}
 use native.Mathlib.Nat.{le-of-suc-le-suc, not-suc-le-zero}
 use native.Mathlib.Omega.{arith}
-use lib.ListN.{length, take, drop, replicate, length-take, length-drop, drop-of-length-le}
-use lib.Seq.{take-all, take-nil, drop-drop}
+use lib.ListN.{length, take, drop, length-drop, drop-of-length-le}
+use lib.Seq.{take-all}
 use Rattle.types.specs.Build.{pageSize}
 use Rattle.types.proofs.TestLaws.{le-or-lt}
-use Rattle.flash.specs.Geometry.{pageStart}
 use Rattle.flash.specs.Patch.{over, patch, blank}
 use Rattle.flash.proofs.PatchLaws.{patch-none, patch-past, take-least}
 

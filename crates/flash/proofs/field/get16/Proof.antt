@@ -1,8 +1,6 @@
 -- `flash::field::get16` meets its contract. Assumes nothing.
 use mathlib.Core.Path.{_∙_}
-use mathlib.Core.List.{[], _∷_}
 use lib.ListN.{drop}
-use Rattle.types.specs.Bytes.{word}
 use Rattle.flash.proofs.FieldLaws.{elements, word-elements}
 use borrow.Author.Needs.{needs}
 use Rattle.flash.proofs.field.get16.Statement.{statement}

@@ -1,7 +1,6 @@
 -- `flash::part::part_of` meets its contract. Assumes nothing.
-use mathlib.Core.Path.{_≡_, refl, ap, _∙_}
+use mathlib.Core.Path.{ap, _∙_}
 use Prim.Native.Nat.{ℕ, _+_, min}
-use lib.ListN.{length}
 use Rattle.flash.proofs.GeometryLaws.{part-lent}
 use borrow.Author.Needs.{needs}
 use Rattle.flash.proofs.part.part_of.Statement.{statement}

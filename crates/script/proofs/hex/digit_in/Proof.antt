@@ -1,5 +1,4 @@
 -- `script::hex::digit_in` meets its contract. Assumes nothing.
-use native.Mathlib.Omega.{arith}
 use Rattle.script.proofs.HexLaws.{digit-low, digit-decimal, digit-between, digit-letter, digit-high}
 use borrow.Author.Needs.{needs}
 use Rattle.script.proofs.hex.digit_in.Statement.{statement}

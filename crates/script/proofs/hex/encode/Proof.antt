@@ -1,10 +1,9 @@
 -- `script::hex::encode` meets its contract: after i turns the first i bytes are laid out. Assumes nothing.
-use mathlib.Core.Path.{_≡_, refl, sym, ap, _∙_}
-use mathlib.Core.List.{List}
-use Prim.Native.Nat.{ℕ, _+_, _-_, _*_, _/_, _≤_, _<_, min}
+use mathlib.Core.Path.{_≡_, refl, _∙_}
+use Prim.Native.Nat.{_-_, _*_, _/_, _≤_, min}
 use native.Mathlib.Omega.{arith}
 use borrow.Author.Needs.{needs}
-use lib.ListN.{length, take, getD, set, length-set}
+use lib.ListN.{length, take, length-set}
 use Rattle.flash.specs.Patch.{over}
 use Rattle.flash.proofs.PatchLaws.{put-start}
 use Rattle.script.specs.Hex.{hexOf}

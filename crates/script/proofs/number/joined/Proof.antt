@@ -1,5 +1,5 @@
 -- `script::number::joined` meets its contract. Assumes nothing.
-use Prim.Native.Nat.{_+_, _-_, _*_, _/_, _≤_, _<_}
+use Prim.Native.Nat.{_+_, _-_, _*_, _≤_}
 use native.Mathlib.Omega.{arith}
 use borrow.Author.Needs.{needs}
 use Rattle.script.proofs.NumberLaws.{digit-fits, joined-other, joined-fits, joined-passes}

@@ -1,11 +1,9 @@
 -- `script::number::number_in` meets its contract: the number read on from i is the word's. Assumes nothing.
-use mathlib.Core.Path.{_≡_, refl, sym, _∙_}
-use Prim.Native.Nat.{ℕ, _-_, _≤_, _<_}
-use native.Mathlib.Omega.{arith}
+use mathlib.Core.Path.{_≡_, refl, _∙_}
+use Prim.Native.Nat.{_-_}
 use borrow.Author.Needs.{needs}
-use lib.ListN.{length, drop, getD}
-use Rattle.script.specs.Hex.{digitIn}
-use Rattle.script.specs.Numbers.{joined, readOn}
+use lib.ListN.{length, drop}
+use Rattle.script.specs.Numbers.{readOn}
 use Rattle.script.specs.declared.number.Number.the-variants.{Value, NoNumber}
 use Rattle.script.proofs.NumberLaws.{read-turn, read-stops, read-done, number-empty, number-read}
 use Rattle.script.proofs.number.number_in.Statement.{statement}

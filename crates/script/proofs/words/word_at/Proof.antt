@@ -1,10 +1,10 @@
 -- `script::words::word_at` meets its contract: the word sought from a later word on is the one sought. Assumes nothing.
-use mathlib.Core.Path.{_≡_, refl, sym, ap, _∙_}
-use Prim.Native.Nat.{ℕ, _-_, _≤_, min}
+use mathlib.Core.Path.{_≡_, _∙_}
+use Prim.Native.Nat.{_-_}
 use native.Mathlib.Nat.{sub-zero}
 use borrow.Author.Needs.{needs}
-use lib.ListN.{length, take, drop}
-use Rattle.script.specs.Words.{endFrom, space, wordAt}
+use lib.ListN.{drop}
+use Rattle.script.specs.Words.{wordAt}
 use Rattle.script.proofs.WordLaws.{word-turn, word-found}
 use Rattle.script.proofs.words.word_at.Statement.{statement}
 use Rattle.script.proofs.words.word_at.Tie as tie
