@@ -1,3 +1,4 @@
+pub mod AlikeLaws
 pub mod FitLaws
 pub mod KeyLaws
 pub mod OrderLaws

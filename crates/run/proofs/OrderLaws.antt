@@ -30,7 +30,7 @@ first-above : (x y : ℕ) (s t : List ℕ) → y < x → compareKeys (x ∷ s) (
 unfolding compareKeys
 first-above x y s t h = simp (le-ltb x y (omega arith), lt-ltb y x h)
 
-first-same : (x y : ℕ) (s t : List ℕ) → x ≡ y → compareKeys (x ∷ s) (y ∷ t) ≡ compareKeys s t
+pub first-same : (x y : ℕ) (s t : List ℕ) → x ≡ y → compareKeys (x ∷ s) (y ∷ t) ≡ compareKeys s t
 unfolding compareKeys
 first-same x y s t h = simp (le-ltb x y (omega arith), le-ltb y x (omega arith))
 

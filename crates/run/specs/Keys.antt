@@ -1,8 +1,10 @@
 -- The order of keys: bytewise, a prefix first (document 01, 'Runs and merge'). Assumes nothing.
+use mathlib.Core.Path.{_≡_}
 use mathlib.Core.Bool.{cond}
 use mathlib.Core.List.{List, [], _∷_}
-use Prim.Native.Nat.{ℕ}
+use Prim.Native.Nat.{ℕ, _≤_}
 use lib.Dec.{ltb}
+use lib.ListN.{length, take}
 use Rattle.run.specs.declared.order.Ordering.{Ordering}
 use Rattle.run.specs.declared.order.Ordering.the-variants.{Less, Equal, Greater}
 
@@ -12,3 +14,9 @@ compareKeys [] [] = Equal
 compareKeys [] (b ∷ t) = Less
 compareKeys (a ∷ s) [] = Greater
 compareKeys (a ∷ s) (b ∷ t) = cond (ltb a b) Less (cond (ltb b a) Greater (compareKeys s t))
+
+-- so many first bytes are the same in both
+pub record Alike (a b : List ℕ) (size : ℕ) : Type 0 where
+  pub first : size ≤ length a
+  pub second : size ≤ length b
+  pub same : take size a ≡ take size b

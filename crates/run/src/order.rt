@@ -1,6 +1,10 @@
 // The order of keys: bytewise, a prefix first (document 01, 'Runs and merge').
 ghost use mathlib.Core.Path.{_≡_};
-ghost use Rattle.run.specs.Keys.{compareKeys};
+ghost use mathlib.Core.List.{[], _∷_};
+ghost use Prim.Native.Nat.{_+_, _≤_};
+ghost use lib.ListN.{length, take, drop};
+ghost use Rattle.types.specs.Bytes.{word};
+ghost use Rattle.run.specs.Keys.{Alike, compareKeys};
 
 pub enum Ordering {
     Less,
@@ -8,11 +12,46 @@ pub enum Ordering {
     Greater,
 }
 
+// Four bytes as one number, which a machine reads at once.
+fn word_of(a: u8, b: u8, c: u8, d: u8) -> u32
+    ensures answers { λ r. ⌜ r ≡ word (a ∷ b ∷ c ∷ d ∷ []) ⌝ }
+{
+    (a as u32) + (b as u32) * 0x100 + (c as u32) * 0x10000 + (d as u32) * 0x1000000
+}
+
+fn word_at(bytes: &[u8], at: usize) -> u32
+    requires { ⌜ at + 4 ≤ length (now bytes) ⌝ }
+    ensures answers { λ r. ⌜ r ≡ word (take 4 (drop at (now (bytes .entry)))) ⌝ }
+{
+    word_of(bytes[at], bytes[at + 1], bytes[at + 2], bytes[at + 3])
+}
+
+fn shorter(a: usize, b: usize) -> usize
+    ensures answers { λ r. ⌜ (r ≤ a) × (r ≤ b) ⌝ }
+{
+    if a < b { a } else { b }
+}
+
+// So many first bytes are the same in both: keys of one run often start alike, so they are passed four at a time.
+fn alike(a: &[u8], b: &[u8]) -> usize
+    ensures answers { λ r. ⌜ Alike (now (a .entry)) (now (b .entry)) r ⌝ }
+{
+    let size = shorter(a.len(), b.len());
+    let mut i: usize = 0;
+    while 4 <= size - i {
+        if word_at(a, i) != word_at(b, i) {
+            return i;
+        }
+        i += 4;
+    }
+    i
+}
+
 // How the first key stands to the second.
 pub fn compare(a: &[u8], b: &[u8]) -> Ordering
     ensures answers { λ r. ⌜ r ≡ compareKeys (now (a .entry)) (now (b .entry)) ⌝ }
 {
-    let mut i: usize = 0;
+    let mut i = alike(a, b);
     while i < a.len() {
         if i == b.len() {
             return Ordering::Greater;

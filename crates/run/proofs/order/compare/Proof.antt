@@ -1,9 +1,11 @@
 -- `run::order::compare` meets its contract: what is left of both keys stands as the keys do. Assumes nothing.
-use mathlib.Core.Path.{_≡_, refl}
+use mathlib.Core.Path.{_≡_}
 use Prim.Native.Nat.{_-_, _≤_}
 use native.Mathlib.Omega.{arith}
 use lib.ListN.{length, drop}
+use borrow.Author.Needs.{needs}
 use Rattle.run.specs.Keys.{compareKeys}
+use Rattle.run.proofs.AlikeLaws.{compare-alike}
 use Rattle.run.proofs.KeyLaws.{first-ends, second-ends, both-end, byte-less, byte-greater, byte-same}
 use Rattle.run.proofs.order.compare.Statement.{statement}
 use Rattle.run.proofs.order.compare.Tie as tie
@@ -14,8 +16,11 @@ Inv-loop a b i₀ i = (i ≤ length a) × (i ≤ length b) × (compareKeys (drop
 abbrev μ-loop : tie.MeasureT-loop
 μ-loop a b i₀ i = length a - i
 
+alike-requires : tie.Need-alike-requires Inv-loop μ-loop
+alike-requires c κs = search needs
+
 loop-holds : tie.Need-loop-holds Inv-loop μ-loop
-loop-holds c = (omega arith, omega arith, refl)
+loop-holds c = (c .alike .ensures .first, c .alike .ensures .second, compare-alike _ _ _ (c .alike .ensures))
 
 returns : tie.Need-returns Inv-loop μ-loop
 returns c = second-ends _ _ _ (c .before .before .loop .inv .2) (c .before .loop-test .taken) (c .if1 .taken)
@@ -53,6 +58,7 @@ compare-spec =
     (tie.spec
     Inv-loop
     μ-loop
+    alike-requires
     loop-holds
     returns
     shared-slice-read-x
