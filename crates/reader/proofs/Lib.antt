@@ -1,5 +1,9 @@
 pub mod AgainLaws
+pub mod BufferLaws
 pub mod CheckLaws
+pub mod FoundLaws
+pub mod GoodLaws
+pub mod KeptLaws
 pub mod MoveLaws
 pub mod OpenLaws
 pub mod RangeLaws

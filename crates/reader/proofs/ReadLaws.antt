@@ -1,9 +1,10 @@
 -- Reading: each way through read, skip and is_at_eof, with the answer, the reader and the buffer. Assumes nothing.
-use mathlib.Core.Path.{_≡_, ap}
+use mathlib.Core.Path.{_≡_, sym, ap, _∙_}
 use mathlib.Core.Bool.{true, false}
 use mathlib.Core.List.{List}
 use mathlib.Core.Logic.{⊎-elim}
 use Prim.Native.Nat.{ℕ, _+_, _-_, _^_, _<_, min}
+use native.Mathlib.Nat.{add-zero}
 use native.Mathlib.Omega.{arith}
 use lib.ListN.{length}
 use Rattle.types.specs.declared.refusal.Refusal.{Refusal}
@@ -24,6 +25,7 @@ use Rattle.reader.specs.declared.moves.Passed.the-variants as passed
 use Rattle.reader.specs.declared.page_reader.PageReader.{PageReader}
 use Rattle.reader.proofs.CheckLaws.{reader-known}
 use Rattle.reader.proofs.MoveLaws.{ready-whole, ready-end-kept, rest-ended, rest-within}
+use Rattle.reader.proofs.SkipLaws.{skip-ended, skip-here}
 
 module _ (r : PageReader) (flash : List ℕ) where
   -- a reader that passed its checks is whole
@@ -100,3 +102,13 @@ module _ (r : PageReader) (flash : List ℕ) where
         let w = ready-whole page r s (known-whole v) a t in
         omega (arith, w, rest-within page s t (w .1)))
         (decided (s .ended))
+
+    -- a skip of 0 does nothing
+    pub skip-zero : skip r flash 0 ≡ record { answer = count.Bytes 0; reader = r }
+    skip-zero =
+        let page = pageOf (r .page .0) flash in
+        let here : past r 0 ≡ r = ap (λ (n : ℕ). record { page = r .page; ended = r .ended; offset = r .offset; len = r .len; crc = r .crc; position = n }) (add-zero (r .position)) in
+        ⊎-elim
+        (λ e. sym (skip-to 0 0 r (skip-ended page 0 r e)))
+        (λ e. sym (skip-to 0 0 (past r 0) (skip-here page 0 r e (omega arith))) ∙ ap (λ (s : PageReader). record { answer = count.Bytes 0; reader = s }) here)
+        (decided (r .ended))

@@ -1,5 +1,6 @@
 pub mod Answers
 pub mod Calls
 pub mod Checks
+pub mod Finds
 pub mod Moves
 pub mod States
