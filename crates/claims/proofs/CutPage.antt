@@ -21,7 +21,8 @@ use Rattle.writer.specs.Writes.{takes, takenOf, written}
 use Rattle.writer.specs.declared.answers.Opened.{Opened}
 use Rattle.writer.specs.declared.page_writer.PageWriter.{PageWriter}
 use Rattle.claims.specs.Additions.{fills, addition, additionOps, added, newPayload, storeCount}
-use Rattle.claims.specs.Pages.{AllBytes, Good, payloadOf, payloads}
+use Rattle.reader.specs.Finds.{payloadOf}
+use Rattle.claims.specs.Pages.{AllBytes, Good, payloads}
 use Rattle.claims.proofs.ClosingLaws.{Stored}
 use Rattle.claims.proofs.CutLaws.{Shape, append-as, added-page, even, room, stored}
 use Rattle.claims.proofs.GoodLaws.{good-same, good-more}

@@ -15,7 +15,8 @@ use Rattle.page.specs.declared.walk.Ending.the-variants.{EndAt}
 use Rattle.page.proofs.HeaderLaws.{header-below}
 use Rattle.page.proofs.LaidLaws.{All, Placed, laid-placed, walk-laid, walk-ends-at, walk-ended}
 use Rattle.page.proofs.OntoLaws.{payload-below}
-use Rattle.claims.specs.Pages.{payloadOf, Right, AllRight, Good, payloads}
+use Rattle.reader.specs.Finds.{payloadOf}
+use Rattle.claims.specs.Pages.{Right, AllRight, Good, payloads}
 
 -- ---- chunks that lie below o, on pages that agree there
 

@@ -103,3 +103,14 @@ module _ (e : ℕ) (unmarked : word (blank e 2) ≡ chunkMagic → ⊥) (page : 
             ∙ ap (λ (x : List (List ℕ)). x ++ keptPayloads e ys page h w ts) (one .are)
             ∙ append-assoc (payloads (pageOf (page .0) xs) h) _ (keptPayloads e ys page h w ts);
       }
+
+  -- the flash keeps its length
+  pub history-length : (ts : List Episode) (xs : List ℕ) (o : ℕ) → flashFine (length xs) ≡ true → hasPage (length xs) (page .0) ≡ true → Good magic (page .0) h o (pageOf (page .0) xs) → AllPieces ts
+      → length (history e xs page h w ts) ≡ length xs
+  unfolding history
+  history-length [] xs o fine there good bytes = refl
+  history-length (t ∷ ts) xs o fine there good bytes =
+      let ys = added e xs page h w (t .stores) (t .pieces) in
+      let one = episode xs t o fine there good (bytes .0) in
+      let l : length ys ≡ length xs = added-length e xs page h w (t .stores) o (record { flash = fine; header = good .length-fine; there = there }) (good .ends) (t .pieces) in
+      history-length ts ys (one .o) (ap flashFine l ∙ fine) (ap (λ (n : ℕ). hasPage n (page .0)) l ∙ there) (one .good) (bytes .1) ∙ l

@@ -1,11 +1,12 @@
-pub mod GroupLaws
 pub mod AddingLaws
-pub mod ClosingLaws
 pub mod AdditionLaws
-pub mod PageCutLaws
 pub mod CallLaws
+pub mod ClosingLaws
 pub mod CutLaws
-pub mod GoodLaws
 pub mod CutPage
+pub mod CutSafe
 pub mod ErasedLaws
+pub mod GoodLaws
+pub mod GroupLaws
 pub mod HistoryLaws
+pub mod PageCutLaws

@@ -8,14 +8,10 @@ use lib.ListN.{length}
 use Rattle.types.specs.Build.{pageSize, pageHeaderSize}
 use Rattle.types.specs.Bytes.{Bytes}
 use Rattle.crc.specs.Published.{published}
-use Rattle.page.specs.Chunks.{payloadAt}
 use Rattle.page.specs.Headers.{headerFine, pageHeaderFine}
 use Rattle.page.specs.Walks.{Chunk, walkFrom}
 use Rattle.page.specs.declared.walk.Ending.the-variants.{EndAt}
-
--- a chunk's payload on a page
-abbrev pub payloadOf : List ℕ → Chunk → List ℕ
-payloadOf page c = payloadAt page (c .offset) (c .len)
+use Rattle.reader.specs.Finds.{payloadOf}
 
 -- a chunk that is not empty and whose sum is right
 pub record Right (page : List ℕ) (c : Chunk) : Type 0 where
