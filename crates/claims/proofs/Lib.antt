@@ -5,6 +5,7 @@ pub mod ClosingLaws
 pub mod CutLaws
 pub mod CutPage
 pub mod CutSafe
+pub mod Elsewhere
 pub mod ErasedLaws
 pub mod GoodLaws
 pub mod GroupLaws
