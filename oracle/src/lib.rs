@@ -8,6 +8,7 @@
 #[macro_use]
 mod stand_ins;
 
+pub mod compare;
 pub mod fixed;
 pub mod gen;
 mod images;

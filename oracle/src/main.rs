@@ -1,11 +1,14 @@
-//! `oracle run`, `rules` or `raw` answers a script from standard input; `gen` makes a random one, `fixed` one to record.
+//! `oracle run`, `rules` or `raw` answers a script from standard input; `gen` makes a random one, `fixed` one to record;
+//! `compare` holds another program's answers to ours.
+use oracle::compare::{Compared, Difference, Program};
 use oracle::world::{Mode, World};
-use oracle::{fixed, gen};
+use oracle::{compare, fixed, gen};
 use std::io::{BufRead, BufWriter, Write};
 
 const USAGE: &str = "usage: oracle run|rules|raw < SCRIPT
        oracle gen --seed S --calls N --part crc|alloc|reader|writer|cursor|all
-       oracle fixed crc|alloc|reader|writer|cursor";
+       oracle fixed crc|alloc|reader|writer|cursor
+       oracle compare --seed S --calls N --part crc|alloc|reader|writer|cursor|all PROGRAM [ARGUMENT..]";
 
 fn main() {
     let arguments: Vec<String> = std::env::args().skip(1).collect();
@@ -16,6 +19,9 @@ fn main() {
         ["raw"] => answer(Mode::Raw),
         ["gen", "--seed", seed, "--calls", calls, "--part", part] => generate(seed, calls, part),
         ["fixed", name] => record(name),
+        ["compare", "--seed", seed, "--calls", calls, "--part", part, ref program @ ..] if !program.is_empty() => {
+            hold(seed, calls, part, program)
+        }
         _ => stop(USAGE),
     }
 }
@@ -50,6 +56,34 @@ fn record(name: &str) {
     let mut out = BufWriter::new(std::io::stdout().lock());
     for line in lines {
         writeln!(out, "{line}").unwrap();
+    }
+}
+
+fn hold(seed: &str, calls: &str, part: &str, program: &[&str]) {
+    let (Ok(seed), Ok(calls)) = (seed.parse(), calls.parse()) else {
+        stop(USAGE)
+    };
+    let program = Program {
+        words: program.to_vec(),
+    };
+    let mut compared = Compared::default();
+    match compare::compare(&program, seed, calls, part, &mut compared) {
+        Ok(None) => {
+            let Compared { calls, by_the_original } = compared;
+            println!(
+                "{calls} calls compared, no difference; the original answered {by_the_original} of them by itself"
+            );
+        }
+        Ok(Some(Difference { script, ours, theirs })) => {
+            println!("{}", script.join("\n"));
+            println!("# the oracle: {ours}");
+            println!("# {}: {theirs}", program.words.join(" "));
+            stop(&format!(
+                "oracle: a difference after {} calls without one",
+                compared.calls
+            ))
+        }
+        Err(why) => stop(&format!("oracle: {why}")),
     }
 }
 

@@ -1,0 +1,122 @@
+//! Random scripts through a program over the proved library, its lines held to ours.
+mod shrink;
+
+use crate::gen;
+use crate::world::{answers, Mode};
+use std::io::Write;
+use std::process::{Command, Stdio};
+use std::thread;
+
+/// Calls in one script, and the bytes that `replay` has room for.
+const SCRIPT_CALLS: usize = 3000;
+const SCRIPT_BYTES: usize = 262_143;
+
+/// The program that is compared: its name and its arguments.
+pub struct Program<'a> {
+    pub words: Vec<&'a str>,
+}
+
+/// Calls that were compared, and how many of them the original answered by itself.
+#[derive(Default)]
+pub struct Compared {
+    pub calls: usize,
+    pub by_the_original: usize,
+}
+
+/// The smallest script found whose last call gets another answer, and both answers.
+#[derive(Debug)]
+pub struct Difference {
+    pub script: Vec<String>,
+    pub ours: String,
+    pub theirs: String,
+}
+
+impl Program<'_> {
+    /// The lines that the program prints for a script, and where it says something on standard error, that in the end.
+    fn lines(&self, script: &str) -> Result<Vec<String>, String> {
+        let said = |e: std::io::Error| format!("{}: {e}", self.words[0]);
+        let mut child = Command::new(self.words[0])
+            .args(&self.words[1..])
+            .stdin(Stdio::piped())
+            .stdout(Stdio::piped())
+            .stderr(Stdio::piped())
+            .spawn()
+            .map_err(said)?;
+        let mut stdin = child.stdin.take().unwrap();
+        let script = script.to_string();
+        // A program that stops early closes its end: what it printed until then is compared.
+        let feeding = thread::spawn(move || drop(stdin.write_all(script.as_bytes())));
+        let output = child.wait_with_output().map_err(said)?;
+        feeding.join().unwrap();
+        let text = |bytes: &[u8]| String::from_utf8_lossy(bytes).into_owned();
+        let mut lines: Vec<String> = text(&output.stdout).lines().map(String::from).collect();
+        if !output.stderr.is_empty() {
+            lines.push(text(&output.stderr).trim_end().into());
+        }
+        Ok(lines)
+    }
+
+    /// The first call of a script that gets another answer, with our answer and theirs.
+    fn first_difference(&self, script: &[String]) -> Result<Option<(usize, String, String)>, String> {
+        let text: String = script.iter().flat_map(|line| [line.as_str(), "\n"]).collect();
+        let (ours, theirs) = (answers(Mode::Rules, &text)?, self.lines(&text)?);
+        let none = || "nothing".to_string();
+        let differs = (0..ours.len().max(theirs.len())).find(|&i| ours.get(i) != theirs.get(i));
+        Ok(differs.map(|i| {
+            let answer = |lines: &[String]| lines.get(i).cloned().unwrap_or_else(none);
+            (i.min(script.len() - 1), answer(&ours), answer(&theirs))
+        }))
+    }
+
+    /// Compares a script. Each of its lines is a call.
+    fn compare(&self, script: &[String]) -> Result<Option<Difference>, String> {
+        let Some((at, ..)) = self.first_difference(script)? else {
+            return Ok(None);
+        };
+        let script = shrink::smallest(&script[..=at], |script| {
+            Ok(matches!(self.first_difference(script), Ok(Some((at, ..))) if at + 1 == script.len()))
+        })?;
+        let (_, ours, theirs) = self.first_difference(&script)?.ok_or("it differs only now and then")?;
+        Ok(Some(Difference { script, ours, theirs }))
+    }
+}
+
+/// A random script that `replay` has room for.
+fn script(seed: u64, calls: usize, part: &str) -> Result<Vec<String>, String> {
+    let mut out = Vec::new();
+    if !gen::script(seed, calls, part, &mut out) {
+        return Err(format!("no part is called {part}"));
+    }
+    let mut room = SCRIPT_BYTES;
+    let text = String::from_utf8(out).unwrap();
+    let fits = |line: &&str| {
+        let before = room;
+        room = room.saturating_sub(line.len() + 1);
+        before > line.len()
+    };
+    Ok(text.lines().take_while(fits).map(String::from).collect())
+}
+
+/// Compares so many calls, in scripts from this seed on, up to the first difference.
+pub fn compare(
+    program: &Program,
+    seed: u64,
+    calls: usize,
+    part: &str,
+    compared: &mut Compared,
+) -> Result<Option<Difference>, String> {
+    for seed in seed.. {
+        if compared.calls >= calls {
+            break;
+        }
+        let script = script(seed, SCRIPT_CALLS.min(calls - compared.calls), part)?;
+        if let Some(difference) = program.compare(&script)? {
+            return Ok(Some(difference));
+        }
+        let text: String = script.iter().flat_map(|line| [line.as_str(), "\n"]).collect();
+        let own = answers(Mode::Run, &text)?;
+        compared.calls += script.len();
+        compared.by_the_original += own.iter().filter(|line| *line != "unsupported").count();
+    }
+    Ok(None)
+}
