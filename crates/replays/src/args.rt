@@ -3,7 +3,9 @@ use check::same;
 use script::hex::Decoded;
 use script::hex::decode;
 use script::number::Number;
+use script::number::Word32;
 use script::number::decimal_in;
+use script::number::word32_in;
 use script::words::word_at;
 use types::page_id::PageID;
 
@@ -15,6 +17,11 @@ pub(crate) enum Page {
 pub(crate) enum Seed {
     Number(u32),
     NoSeed,
+}
+
+pub(crate) enum Flag {
+    Is(bool),
+    NoFlag,
 }
 
 pub(crate) fn number_at(line: &[u8], k: usize) -> Number {
@@ -52,6 +59,23 @@ pub(crate) fn seed_at(line: &[u8], k: usize) -> Seed {
         Seed::Number(n as u32)
     } else {
         Seed::NoSeed
+    }
+}
+
+// Eight digits in hex.
+pub(crate) fn word32_at(line: &[u8], k: usize) -> Word32 {
+    word32_in(word_at(line, k))
+}
+
+pub(crate) fn flag_at(line: &[u8], k: usize) -> Flag {
+    let word = word_at(line, k);
+    if same(word, b"1") {
+        return Flag::Is(true);
+    }
+    if same(word, b"0") {
+        Flag::Is(false)
+    } else {
+        Flag::NoFlag
     }
 }
 

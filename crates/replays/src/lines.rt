@@ -4,10 +4,15 @@ use crate::world::World;
 use flash::part::part_of;
 use libc::STDERR_FILENO;
 use libc::STDIN_FILENO;
+use script::space::flash_space;
+use script::space::runs_space;
 use script::space::script_space;
 use script::words::end_from;
 use types::num::least;
 use types::num::less;
+
+// Run ends that a script can give.
+const MOST_ENDS: usize = 32;
 
 fn say_stopped(number: usize, line: &[u8]) {
     io::write_all(STDERR_FILENO, b"replay: line ");
@@ -17,7 +22,7 @@ fn say_stopped(number: usize, line: &[u8]) {
     io::write_all(STDERR_FILENO, b"\n");
 }
 
-fn answer_lines(script: &[u8]) {
+fn answer_lines(script: &[u8], flash: &mut [u8], runs: &mut [u8], ends: &mut [usize]) {
     let mut w = World::new();
     let mut number = 0;
     let mut at = 0;
@@ -25,7 +30,7 @@ fn answer_lines(script: &[u8]) {
         let end = end_from(script, at, b'\n');
         let line = part_of(script, at, less(end, at));
         number += 1;
-        w = answer(w, line);
+        w = answer(w, line, flash, runs, ends);
         if !w.fine {
             say_stopped(number, line);
             return;
@@ -44,5 +49,8 @@ pub(crate) fn answer_input() {
         );
         return;
     }
-    answer_lines(part_of(&space, 0, n));
+    let mut flash = flash_space();
+    let mut runs = runs_space();
+    let mut ends = [0; MOST_ENDS];
+    answer_lines(part_of(&space, 0, n), &mut flash, &mut runs, &mut ends);
 }

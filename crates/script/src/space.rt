@@ -1,4 +1,4 @@
-// Room for what a program reads: zeros. Their number is said once more for callers, since a list this long is not to be looked into.
+// Room for what a program reads. Their number is said once more for callers, since a list this long is not to be looked into.
 ghost use mathlib.Core.Path.{_≡_};
 ghost use lib.ListN.{length};
 ghost use Rattle.flash.specs.Patch.{blank};
@@ -17,4 +17,20 @@ pub fn line_space() -> [u8; 16384]
     ensures { λ r. ⌜ 16384 ≡ length r ⌝ }
 {
     [0; 16384]
+}
+
+// Room for a flash, erased.
+pub fn flash_space() -> [u8; 65536]
+    ensures answers { λ r. ⌜ r ≡ blank 255 65536 ⌝ }
+    ensures { λ r. ⌜ 65536 ≡ length r ⌝ }
+{
+    [255; 65536]
+}
+
+// Room for runs.
+pub fn runs_space() -> [u8; 131072]
+    ensures answers { λ r. ⌜ r ≡ blank 0 131072 ⌝ }
+    ensures { λ r. ⌜ 131072 ≡ length r ⌝ }
+{
+    [0; 131072]
 }

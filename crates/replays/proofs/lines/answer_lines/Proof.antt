@@ -1,4 +1,5 @@
 -- `replays::lines::answer_lines` meets its contract: each turn passes a line, and no more lines are passed than bytes. Assumes nothing.
+use mathlib.Core.Path.{_≡_}
 use Prim.Native.Nat.{_-_, _≤_}
 use native.Mathlib.Omega.{arith}
 use borrow.Author.Needs.{needs}
@@ -7,10 +8,10 @@ use Rattle.replays.proofs.lines.answer_lines.Statement.{statement}
 use Rattle.replays.proofs.lines.answer_lines.Tie as tie
 
 abbrev Inv-loop : tie.InvT-loop
-Inv-loop script w₀ number₀ at₀ w number at = number ≤ at
+Inv-loop script flash₀ runs₀ ends₀ w₀ number₀ at₀ flash runs ends w number at = (number ≤ at) × (length flash ≡ length flash₀) × (length runs ≡ length runs₀) × (length ends ≡ length ends₀)
 
 abbrev μ-loop : tie.MeasureT-loop
-μ-loop script w₀ number₀ at₀ w number at = length script - at
+μ-loop script flash₀ runs₀ ends₀ w₀ number₀ at₀ flash runs ends w number at = length script - at
 
 new-requires : tie.Need-new-requires Inv-loop μ-loop
 new-requires c κs = search needs
@@ -36,23 +37,41 @@ answer-requires c κs = search needs
 say-stopped-requires : tie.Need-say-stopped-requires Inv-loop μ-loop
 say-stopped-requires c κs = search needs
 
+same-length : tie.Need-same-length Inv-loop μ-loop
+same-length c = omega (arith, (c .before .before .before .before .before .before .before .before .flash .given), (c .before .before .before .before .before .before .before .before .before .before .before .before .before .before .before .before .before .loop .inv))
+
+same-length-2 : tie.Need-same-length-2 Inv-loop μ-loop
+same-length-2 c = omega (arith, (c .before .before .before .before .before .before .runs .given), (c .before .before .before .before .before .before .before .before .before .before .before .before .before .before .before .before .before .loop .inv))
+
+same-length-3 : tie.Need-same-length-3 Inv-loop μ-loop
+same-length-3 c = omega (arith, (c .before .before .before .before .ends .given), (c .before .before .before .before .before .before .before .before .before .before .before .before .before .before .before .before .before .loop .inv))
+
 returns : tie.Need-returns Inv-loop μ-loop
-returns c = search needs
+returns c = omega arith
 
 least-requires : tie.Need-least-requires Inv-loop μ-loop
 least-requires c κs = search needs
 
 add-at : tie.Need-add-at Inv-loop μ-loop
-add-at c = omega arith
+add-at c = omega (arith, (c .least .ensures), (c .before .before .before .before .before .before .before .before .before .before .before .before .before .before .before .end-from .ensures), (c .before .before .before .before .before .before .before .before .before .before .before .before .before .before .before .before .loop-test .taken), (c .before .before .before .before .before .before .before .before .before .before .before .before .before .before .before .before .before .loop .inv), (c .before .before .before .before .before .before .before .before .before .before .before .before .before .before .before .before .before .before .before .before .before .before .before))
 
 loop-less : tie.Need-loop-less Inv-loop μ-loop
-loop-less c = omega arith
+loop-less c = omega (arith, (c .least .ensures), (c .before .before .before .before .before .before .before .before .before .before .before .before .before .before .before .end-from .ensures), (c .before .before .before .before .before .before .before .before .before .before .before .before .before .before .before .before .loop-test .taken), (c .before .before .before .before .before .before .before .before .before .before .before .before .before .before .before .before .before .loop .inv))
 
 loop-again : tie.Need-loop-again Inv-loop μ-loop
-loop-again c = omega arith
+loop-again c = omega (arith, (c .least .ensures), (c .before .before .before .before .before .before .before .before .before .before .before .before .before .before .before .end-from .ensures), (c .before .before .before .before .before .before .before .before .before .before .before .before .before .before .before .before .loop-test .taken), (c .before .before .before .before .before .before .before .before .before .before .before .before .before .before .before .before .before .loop .inv), (c .before .before .before .before .before .before .before .before .flash .given), (c .before .before .before .before .before .before .runs .given), (c .before .before .before .before .ends .given))
+
+same-length-4 : tie.Need-same-length-4 Inv-loop μ-loop
+same-length-4 c = omega arith
+
+same-length-5 : tie.Need-same-length-5 Inv-loop μ-loop
+same-length-5 c = omega arith
+
+same-length-6 : tie.Need-same-length-6 Inv-loop μ-loop
+same-length-6 c = omega arith
 
 returns-2 : tie.Need-returns-2 Inv-loop μ-loop
-returns-2 c = search needs
+returns-2 c = omega arith
 
 pub answer-lines-spec : {M : Type 1} → statement M
 answer-lines-spec =
@@ -68,9 +87,15 @@ answer-lines-spec =
     add-number
     answer-requires
     say-stopped-requires
+    same-length
+    same-length-2
+    same-length-3
     returns
     least-requires
     add-at
     loop-less
     loop-again
+    same-length-4
+    same-length-5
+    same-length-6
     returns-2)
