@@ -25,6 +25,11 @@ pub(crate) fn none() {
     text(b"none");
 }
 
+// No entry is left.
+pub(crate) fn end() {
+    text(b"end");
+}
+
 pub(crate) fn end_of_line() {
     text(b"\n");
 }
@@ -32,6 +37,10 @@ pub(crate) fn end_of_line() {
 fn word(bytes: &[u8]) {
     text(b" ");
     text(bytes);
+}
+
+pub(crate) fn gone() {
+    word(b"gone");
 }
 
 pub(crate) fn number(n: usize) {

@@ -97,4 +97,11 @@ impl World {
         self.cursor = cursor;
         self
     }
+
+    // With so many bytes of runs, and so many ends.
+    pub(crate) fn with_runs(mut self, runs_len: usize, ends_len: usize) -> World {
+        self.runs_len = runs_len;
+        self.ends_len = ends_len;
+        self
+    }
 }

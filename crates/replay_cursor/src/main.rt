@@ -1,0 +1,4 @@
+// Replays calls on the runs and the cursor against the original's answers.
+fn main() {
+    replays::replay();
+}
