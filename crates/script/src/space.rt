@@ -33,4 +33,10 @@ pub fn runs_space() -> [u8; 131072]
     ensures { λ r. ⌜ 131072 ≡ length r ⌝ }
 {
     [0; 131072]
+// Room for as many runs as a merge takes, of 65,536 bytes each.
+pub fn all_runs_space() -> [u8; 1114112]
+    ensures answers { λ r. ⌜ r ≡ blank 0 1114112 ⌝ }
+    ensures { λ r. ⌜ 1114112 ≡ length r ⌝ }
+{
+    [0; 1114112]
 }

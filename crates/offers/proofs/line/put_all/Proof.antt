@@ -1,0 +1,53 @@
+-- `offers::line::put_all` is safe and ends. Assumes nothing.
+use mathlib.Core.Path.{_≡_}
+use Prim.Native.Nat.{_-_, _≤_}
+use native.Mathlib.Omega.{arith}
+use borrow.Author.Needs.{needs}
+use lib.ListN.{length}
+use Rattle.offers.proofs.line.put_all.Statement.{statement}
+use Rattle.offers.proofs.line.put_all.Tie as tie
+
+abbrev Inv-loop : tie.InvT-loop
+Inv-loop out₀ from bytes at₀ i₀ i-end out at i = (i ≤ i-end) × (i-end ≡ length bytes) × (length out ≡ length out₀)
+
+abbrev μ-loop : tie.MeasureT-loop
+μ-loop out₀ from bytes at₀ i₀ i-end out at i = i-end - i
+
+loop-holds : tie.Need-loop-holds Inv-loop μ-loop
+loop-holds c = omega arith
+
+shared-slice-read-put-escaped : tie.Need-shared-slice-read-put-escaped Inv-loop μ-loop
+shared-slice-read-put-escaped c = omega arith
+
+put-escaped-requires : tie.Need-put-escaped-requires Inv-loop μ-loop
+put-escaped-requires c κs = search needs
+
+add-i : tie.Need-add-i Inv-loop μ-loop
+add-i c = omega arith
+
+loop-less : tie.Need-loop-less Inv-loop μ-loop
+loop-less c = omega arith
+
+loop-again : tie.Need-loop-again Inv-loop μ-loop
+loop-again c = omega arith
+
+same-length : tie.Need-same-length Inv-loop μ-loop
+same-length c = omega arith
+
+returns : tie.Need-returns Inv-loop μ-loop
+returns c = search needs
+
+pub put-all-spec : {M : Type 1} → statement M
+put-all-spec =
+    tie.close
+    (tie.spec
+    Inv-loop
+    μ-loop
+    loop-holds
+    shared-slice-read-put-escaped
+    put-escaped-requires
+    add-i
+    loop-less
+    loop-again
+    same-length
+    returns)
