@@ -1,3 +1,4 @@
 pub mod Additions
+pub mod Again
 pub mod Pages
 pub mod Histories

@@ -1,14 +1,16 @@
 -- A cursor that is within its ranges stays there: passes step on within the runs. Assumes nothing.
 use mathlib.Core.Path.{_≡_, refl, sym, _∙_}
-use mathlib.Core.Bool.{true}
+use mathlib.Core.Bool.{Bool, true, false, cond}
 use mathlib.Core.List.{List}
 use mathlib.Core.Logic.{⊎-elim}
-use Prim.Native.Nat.{ℕ, zero, suc, _-_, _≤_, _<_}
+use Prim.Native.Nat.{ℕ, zero, suc, _+_, _-_, _≤_, _<_}
 use native.Mathlib.Omega.{arith}
+use lib.Dec.{ltb, leb}
 use lib.ListN.{length, set}
-use borrow.Author.Tests.{lt-ltb, le-leb}
+use borrow.Author.Tests.{lt-ltb, le-leb, ltb-true, leb-true}
 use Rattle.types.specs.Build.{fileCount}
-use Rattle.types.proofs.TestLaws.{eq-or-ne}
+use Rattle.types.specs.declared.refusal.Refusal.the-variants.{BadRuns, BadState}
+use Rattle.types.proofs.TestLaws.{eq-or-ne, both-true}
 use Rattle.run.specs.declared.bound.Bound.{Bound}
 use Rattle.run.specs.declared.order.Ordering.{Ordering}
 use Rattle.run.specs.declared.record.Record.{Record}
@@ -18,7 +20,7 @@ use Rattle.cursor.specs.Checks.{goodRuns, goodPlace, goodFrom, goodPlace
 use Rattle.cursor.specs.Pass.{passOf}
 use Rattle.cursor.specs.Places.{gone, atPlace, placeOf}
 use Rattle.cursor.specs.Runs.{startOf, endOf, runOf}
-use Rattle.cursor.specs.declared.check.Check.the-variants.{Fine}
+use Rattle.cursor.specs.declared.check.Check.the-variants.{Fine, Refused}
 use Rattle.cursor.specs.declared.pass.Pass.{Pass}
 use Rattle.cursor.specs.declared.place.Place.{Place}
 use Rattle.cursor.specs.declared.place.Place.the-variants.{At, Gone}
@@ -28,43 +30,75 @@ use Rattle.cursor.proofs.PlaceLaws.{at-gone, set-other, set-gone, set-c
 
 -- every position is within its run, and there is none past the last
 abbrev pub Good : List ℕ → List RunPlace → Type 0
-Good ends places = (i at : ℕ) → placeOf places i ≡ At at → (i < length ends) × (at ≤ endOf ends i - startOf ends i)
+Good ends places = (i at : ℕ) → i < fileCount → placeOf places i ≡ At at → (i < length ends) × (at ≤ endOf ends i - startOf ends i)
 
 -- ---- such places pass the check
 
 module _ (ends : List ℕ) (places : List RunPlace) (h : Good ends places) where
-  good-place : (i : ℕ) (x : Place) → placeOf places i ≡ x → goodPlace ends i x ≡ true
+  good-place : (i : ℕ) → i < fileCount → (x : Place) → placeOf places i ≡ x → goodPlace ends i x ≡ true
   unfolding goodPlace
-  good-place i Gone e = refl
-  good-place i (At at) e = let g = h i at e in rw (lt-ltb i (length ends) (g .0), le-leb at (endOf ends i - startOf ends i) (g .1))
+  good-place i f Gone e = refl
+  good-place i f (At at) e = let g = h i at f e in rw (lt-ltb i (length ends) (g .0), le-leb at (endOf ends i - startOf ends i) (g .1))
 
-  good-from : (count i : ℕ) → goodFrom ends places count i ≡ true
+  good-from : (count i : ℕ) → i + count ≤ fileCount → goodFrom ends places count i ≡ true
   unfolding goodFrom
-  good-from zero i = refl
-  good-from (suc count) i = rw (good-place i (placeOf places i) refl, good-from count (suc i))
+  good-from zero i f = refl
+  good-from (suc count) i f = rw (good-place i (omega arith) (placeOf places i) refl, good-from count (suc i) (omega arith))
 
   pub good-check : (size : ℕ) → goodRuns size ends ≡ true → nextCheck size ends places ≡ Fine
   unfolding nextCheck goodPlaces
-  good-check size g = rw (g, good-from fileCount 0)
+  good-check size g = rw (g, good-from fileCount 0 (omega arith))
+
+-- ---- and places that pass it are such
+
+module _ (ends : List ℕ) (places : List RunPlace) where
+  place-good : (i : ℕ) (x : Place) → goodPlace ends i x ≡ true → (at : ℕ) → x ≡ At at → (i < length ends) × (at ≤ endOf ends i - startOf ends i)
+  unfolding goodPlace
+  place-good i Gone g at e = at-gone Gone at e refl
+  place-good i (At to) g at e =
+      let q : to ≡ at = cc in
+      let b = both-true (ltb i (length ends)) (leb to (endOf ends i - startOf ends i)) g in
+      (ltb-true i (length ends) (b .0), rw (← q) (leb-true to (endOf ends i - startOf ends i) (b .1)))
+
+  from-good : (count i : ℕ) → goodFrom ends places count i ≡ true → (k at : ℕ) → i ≤ k → k < i + count → placeOf places k ≡ At at
+      → (k < length ends) × (at ≤ endOf ends k - startOf ends k)
+  unfolding goodFrom
+  from-good zero i g k at l m e = absurd (omega arith)
+  from-good (suc count) i g k at l m e =
+      let b = both-true (goodPlace ends i (placeOf places i)) (goodFrom ends places count (suc i)) g in
+      ⊎-elim (λ (q : k ≡ i). rw q (place-good i (placeOf places i) (b .0) at (rw q at e)))
+      (λ (n : k ≡ i → ⊥). from-good count (suc i) (b .1) k at (omega arith) (omega arith) e) (eq-or-ne k i)
+
+  check-by : (size : ℕ) (r p : Bool) → goodRuns size ends ≡ r → goodPlaces ends places ≡ p → cond r (cond p Fine (Refused BadState)) (Refused BadRuns) ≡ Fine
+      → (goodRuns size ends ≡ true) × Good ends places
+  unfolding goodPlaces
+  check-by size true true r p e = (r, λ i at f q. from-good fileCount 0 p i at (omega arith) (omega arith) q)
+  check-by size true false r p e = let z : _≡_ {A = ℕ} 0 1 = cc in absurd (omega arith)
+  check-by size false true r p e = let z : _≡_ {A = ℕ} 0 1 = cc in absurd (omega arith)
+  check-by size false false r p e = let z : _≡_ {A = ℕ} 0 1 = cc in absurd (omega arith)
+
+  pub check-good : (size : ℕ) → nextCheck size ends places ≡ Fine → (goodRuns size ends ≡ true) × Good ends places
+  unfolding nextCheck
+  check-good size e = check-by size (goodRuns size ends) (goodPlaces ends places) refl refl e
 
 -- ---- setting a place
 
 good-gone : (ends : List ℕ) (places : List RunPlace) (i : ℕ) → Good ends places → Good ends (set places i gone)
 good-gone ends places i h =
-    λ k at p. ⊎-elim (λ e. at-gone (placeOf (set places i gone) i) at (rw e at p) (set-gone places i))
-    (λ n. h k at (sym (set-other places i k gone n) ∙ p)) (eq-or-ne k i)
+    λ k at f p. ⊎-elim (λ e. at-gone (placeOf (set places i gone) i) at (rw e at p) (set-gone places i))
+    (λ n. h k at f (sym (set-other places i k gone n) ∙ p)) (eq-or-ne k i)
 
 pub good-set : (ends : List ℕ) (places : List RunPlace) (i n : ℕ) → i < length ends → n ≤ endOf ends i - startOf ends i → Good ends places
     → Good ends (set places i (atPlace n))
 good-set ends places i n b m h =
-    λ k at p.
+    λ k at f p.
     ⊎-elim
     (λ e.
     let q : placeOf (set places i (atPlace n)) i ≡ At at = rw e at p in
     ⊎-elim
     (λ s. let w : At n ≡ At at = sym s ∙ q in let v : n ≡ at = cc in rw e (b, rw (← v) m))
     (λ s. at-gone (placeOf (set places i (atPlace n)) i) at q s) (set-cases places i (atPlace n)))
-    (λ d. h k at (sym (set-other places i k (atPlace n) d) ∙ p)) (eq-or-ne k i)
+    (λ d. h k at f (sym (set-other places i k (atPlace n) d) ∙ p)) (eq-or-ne k i)
 
 -- ---- passes
 

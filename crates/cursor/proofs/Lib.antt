@@ -1,3 +1,4 @@
+pub mod AgainLaws
 pub mod BoundLaws
 pub mod CallLaws
 pub mod CheckLaws
@@ -11,6 +12,7 @@ pub mod LookLaws
 pub mod MergeClaims
 pub mod MergeLaws
 pub mod NextLaws
+pub mod NoCursorLaws
 pub mod OnceLaws
 pub mod OpenLaws
 pub mod PassClaims

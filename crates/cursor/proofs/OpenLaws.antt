@@ -31,7 +31,7 @@ use Rattle.cursor.proofs.MergeLaws.{Left}
 use Rattle.cursor.proofs.PlaceLaws.{at-gone, set-other}
 use Rattle.cursor.proofs.ShowLaws.{Shows, none, reads-shows, Starts, starts}
 
-replicate-gone : (n i : ℕ) → placeOf (replicate n gone) i ≡ Gone
+pub replicate-gone : (n i : ℕ) → placeOf (replicate n gone) i ≡ Gone
 replicate-gone zero i = refl
 replicate-gone (suc n) zero = refl
 replicate-gone (suc n) (suc i) = replicate-gone n i
@@ -129,7 +129,7 @@ module _ (low : Bound) (lower : List ℕ) (high : Bound) (upper : List ℕ) wher
       size = length-replicate fileCount gone;
       done = λ k m. absurd (omega arith);
       todo = λ k m. replicate-gone fileCount k;
-      good = λ k at p. at-gone (placeOf allGone k) at p (replicate-gone fileCount k);
+      good = λ k at f p. at-gone (placeOf allGone k) at p (replicate-gone fileCount k);
     }
 
     made : goodRuns (length bytes) ends ≡ true → Made (newOf bytes ends low lower)
