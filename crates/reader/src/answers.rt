@@ -1,5 +1,7 @@
-// What the calls answer. Each answer has a case for its refusals; a call that moves the reader hands it back beside its answer,
-// and a refused one hands it back as it was.
+// What the calls answer. Each answer has a case for its refusals, and the number of document 01's row that refuses, 0 where none
+// does. A call that moves the reader hands it back beside its answer, and a refused one hands it back as it was.
+ghost use mathlib.Core.Path.{_≡_};
+ghost use Rattle.reader.specs.Answers.{outcomeTold, countTold, endTestTold, dehydrationTold, pageTold};
 use crate::dehydrated::DehydratedPageReader;
 use crate::page_reader::PageReader;
 use types::page_id::PageID;
@@ -11,6 +13,17 @@ pub enum Outcome {
     Refused(Refusal),
 }
 
+impl Outcome {
+    pub fn number(self) -> u8
+        ensures answers { λ r. ⌜ r ≡ outcomeTold self .number ⌝ }
+    {
+        match self {
+            Outcome::Done => 0,
+            Outcome::Refused(no) => no.number(),
+        }
+    }
+}
+
 pub struct Opening {
     pub answer: Outcome,
     pub reader: PageReader,
@@ -20,6 +33,17 @@ pub struct Opening {
 pub enum Count {
     Bytes(usize),
     Refused(Refusal),
+}
+
+impl Count {
+    pub fn number(self) -> u8
+        ensures answers { λ r. ⌜ r ≡ countTold self .number ⌝ }
+    {
+        match self {
+            Count::Bytes(_) => 0,
+            Count::Refused(no) => no.number(),
+        }
+    }
 }
 
 pub struct Passage {
@@ -34,6 +58,18 @@ pub enum EndTest {
     Refused(Refusal),
 }
 
+impl EndTest {
+    pub fn number(self) -> u8
+        ensures answers { λ r. ⌜ r ≡ endTestTold self .number ⌝ }
+    {
+        match self {
+            EndTest::AtEnd => 0,
+            EndTest::More => 0,
+            EndTest::Refused(no) => no.number(),
+        }
+    }
+}
+
 pub struct EndTested {
     pub answer: EndTest,
     pub reader: PageReader,
@@ -45,8 +81,30 @@ pub enum Dehydration {
     Refused(Refusal),
 }
 
+impl Dehydration {
+    pub fn number(self) -> u8
+        ensures answers { λ r. ⌜ r ≡ dehydrationTold self .number ⌝ }
+    {
+        match self {
+            Dehydration::State(_) => 0,
+            Dehydration::Refused(no) => no.number(),
+        }
+    }
+}
+
 // Of page_id.
 pub enum Page {
     Number(PageID),
     Refused(Refusal),
+}
+
+impl Page {
+    pub fn number(self) -> u8
+        ensures answers { λ r. ⌜ r ≡ pageTold self .number ⌝ }
+    {
+        match self {
+            Page::Number(_) => 0,
+            Page::Refused(no) => no.number(),
+        }
+    }
 }

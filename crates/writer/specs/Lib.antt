@@ -1,3 +1,4 @@
+pub mod Answers
 pub mod Commits
 pub mod Headings
 pub mod Openings

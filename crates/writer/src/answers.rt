@@ -1,4 +1,7 @@
-// What the calls answer. Each answer has a case for its refusals; beside it are the writer and the number of stores left.
+// What the calls answer. Each answer has a case for its refusals, and the number of document 01's row that refuses, 0 where none
+// does. Beside it are the writer and the number of stores left.
+ghost use mathlib.Core.Path.{_≡_};
+ghost use Rattle.writer.specs.Answers.{openingTold, takingTold, outcomeTold, lengthTold, placeTold};
 use super::page_writer::PageWriter;
 use types::page_id::PageID;
 use types::refusal::Refusal;
@@ -7,6 +10,17 @@ use types::refusal::Refusal;
 pub enum Opening {
     Open,
     Refused(Refusal),
+}
+
+impl Opening {
+    pub fn number(self) -> u8
+        ensures answers { λ r. ⌜ r ≡ openingTold self .number ⌝ }
+    {
+        match self {
+            Opening::Open => 0,
+            Opening::Refused(no) => no.number(),
+        }
+    }
 }
 
 pub struct Opened {
@@ -21,6 +35,17 @@ pub enum Taking {
     Refused(Refusal),
 }
 
+impl Taking {
+    pub fn number(self) -> u8
+        ensures answers { λ r. ⌜ r ≡ takingTold self .number ⌝ }
+    {
+        match self {
+            Taking::Took(_) => 0,
+            Taking::Refused(no) => no.number(),
+        }
+    }
+}
+
 pub struct Wrote {
     pub answer: Taking,
     pub writer: PageWriter,
@@ -31,6 +56,17 @@ pub struct Wrote {
 pub enum Outcome {
     Done,
     Refused(Refusal),
+}
+
+impl Outcome {
+    pub fn number(self) -> u8
+        ensures answers { λ r. ⌜ r ≡ outcomeTold self .number ⌝ }
+    {
+        match self {
+            Outcome::Done => 0,
+            Outcome::Refused(no) => no.number(),
+        }
+    }
 }
 
 pub struct Ended {
@@ -45,8 +81,30 @@ pub enum Length {
     Refused(Refusal),
 }
 
+impl Length {
+    pub fn number(self) -> u8
+        ensures answers { λ r. ⌜ r ≡ lengthTold self .number ⌝ }
+    {
+        match self {
+            Length::Bytes(_) => 0,
+            Length::Refused(no) => no.number(),
+        }
+    }
+}
+
 // Of page_id.
 pub enum Place {
     Page(PageID),
     Refused(Refusal),
+}
+
+impl Place {
+    pub fn number(self) -> u8
+        ensures answers { λ r. ⌜ r ≡ placeTold self .number ⌝ }
+    {
+        match self {
+            Place::Page(_) => 0,
+            Place::Refused(no) => no.number(),
+        }
+    }
 }
