@@ -8,5 +8,6 @@ pub mod OutcomeLaws
 pub mod PlaceLaws
 pub mod PlacedLaws
 pub mod RangeLaws
+pub mod StarredClaims
 pub mod StoreLaws
 pub mod WriteLaws

@@ -1,8 +1,10 @@
 pub mod Answers
+pub mod Calls
 pub mod Commits
 pub mod Headings
 pub mod Openings
 pub mod Outcomes
+pub mod Starred
 pub mod States
 pub mod Verdicts
 pub mod Writes
