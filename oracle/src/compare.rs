@@ -9,7 +9,7 @@ use std::thread;
 
 /// Calls in one script, and the bytes that `replay` has room for.
 const SCRIPT_CALLS: usize = 3000;
-const SCRIPT_BYTES: usize = 262_143;
+const SCRIPT_BYTES: usize = 1_048_575;
 
 /// The program that is compared: its name and its arguments.
 pub struct Program<'a> {

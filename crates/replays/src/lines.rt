@@ -45,7 +45,7 @@ pub(crate) fn answer_input() {
     if n == space.len() {
         io::write_all(
             STDERR_FILENO,
-            b"replay: the script is longer than 262143 bytes\n",
+            b"replay: the script is longer than 1048575 bytes\n",
         );
         return;
     }

@@ -4,11 +4,11 @@ ghost use lib.ListN.{length};
 ghost use Rattle.flash.specs.Patch.{blank};
 
 // Room for a whole script.
-pub fn script_space() -> [u8; 262144]
-    ensures answers { λ r. ⌜ r ≡ blank 0 262144 ⌝ }
-    ensures { λ r. ⌜ 262144 ≡ length r ⌝ }
+pub fn script_space() -> [u8; 1048576]
+    ensures answers { λ r. ⌜ r ≡ blank 0 1048576 ⌝ }
+    ensures { λ r. ⌜ 1048576 ≡ length r ⌝ }
 {
-    [0; 262144]
+    [0; 1048576]
 }
 
 // Room for the bytes of one line.
@@ -19,12 +19,12 @@ pub fn line_space() -> [u8; 16384]
     [0; 16384]
 }
 
-// Room for a flash, erased.
-pub fn flash_space() -> [u8; 65536]
-    ensures answers { λ r. ⌜ r ≡ blank 255 65536 ⌝ }
-    ensures { λ r. ⌜ 65536 ≡ length r ⌝ }
+// Room for a flash of one page more than there can be, erased.
+pub fn flash_space() -> [u8; 1052672]
+    ensures answers { λ r. ⌜ r ≡ blank 255 1052672 ⌝ }
+    ensures { λ r. ⌜ 1052672 ≡ length r ⌝ }
 {
-    [255; 65536]
+    [255; 1052672]
 }
 
 // Room for runs.
@@ -33,6 +33,8 @@ pub fn runs_space() -> [u8; 131072]
     ensures { λ r. ⌜ 131072 ≡ length r ⌝ }
 {
     [0; 131072]
+}
+
 // Room for as many runs as a merge takes, of 65,536 bytes each.
 pub fn all_runs_space() -> [u8; 1114112]
     ensures answers { λ r. ⌜ r ≡ blank 0 1114112 ⌝ }
