@@ -87,6 +87,12 @@ impl World {
         self
     }
 
+    // With a flash of so many bytes.
+    pub(crate) fn with_flash(mut self, length: usize) -> World {
+        self.flash_len = length;
+        self
+    }
+
     pub(crate) fn with_writer(mut self, writer: PageWriter, left: usize) -> World {
         self.writer = writer;
         self.left = left;
