@@ -20,12 +20,6 @@ use types::num::less;
 // Above any page and any offset of a flash that fits its buffer, so that a place is no large number.
 const MOST: usize = 65_536;
 
-fn done(w: World) -> World {
-    say::ok();
-    say::end_of_line();
-    w
-}
-
 // An offset in a page, counted from the flash's start.
 fn place(page: usize, offset: usize) -> Number {
     if MOST < page {
@@ -71,7 +65,8 @@ fn made(w: World, flash: &mut [u8], length: usize) -> World {
         return w.stopped();
     }
     wipe_at(flash, 0, length, ERASE_VALUE);
-    done(w.with_flash(length))
+    say::done();
+    w.with_flash(length)
 }
 
 fn pages(w: World, line: &[u8], flash: &mut [u8]) -> World {
@@ -103,7 +98,8 @@ fn poke(w: World, line: &[u8], flash: &mut [u8]) -> World {
         return w.stopped();
     }
     put_at(flash, at, part_of(&bytes, 0, n));
-    done(w)
+    say::done();
+    w
 }
 
 fn fill(w: World, line: &[u8], flash: &mut [u8]) -> World {
@@ -121,7 +117,8 @@ fn fill(w: World, line: &[u8], flash: &mut [u8]) -> World {
         return w.stopped();
     }
     wipe_at(flash, at, count, value[0]);
-    done(w)
+    say::done();
+    w
 }
 
 fn dump(w: World, line: &[u8], flash: &[u8]) -> World {

@@ -8,6 +8,7 @@ mod lines;
 mod readers;
 mod runs;
 mod say;
+mod slots;
 mod sums;
 mod world;
 mod writers;

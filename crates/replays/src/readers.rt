@@ -1,6 +1,297 @@
-// Calls on the reader, and on the slots that keep one.
+// Calls on the reader.
+use crate::args::Page;
+use crate::args::number_at;
+use crate::args::page_at;
+use crate::args::word32_at;
+use crate::say;
+use crate::slots;
+use crate::slots::Fields;
+use crate::slots::fields_at;
+use crate::slots::say_fields;
 use crate::world::World;
+use check::same;
+use flash::part::part_of;
+use reader::answers;
+use reader::answers::Count;
+use reader::answers::EndTest;
+use reader::answers::Opening;
+use reader::answers::Outcome;
+use reader::answers::Passage;
+use reader::dehydrated::DehydratedPageReader;
+use reader::header;
+use reader::page_reader::PageReader;
+use script::number::Number;
+use script::number::Word32;
+use script::space::line_space;
+use script::words::word_at;
+use script::words::word_count;
+use types::config::MAX_HEADER_SIZE;
+use types::num::least;
+use types::page_id::PageID;
+
+// The longest buffer that a script reads into.
+const MOST_ROOM: usize = 8192;
+
+// Room for every higher header and one byte more: a longer one is refused as that is.
+const HEADER_ROOM: usize = MAX_HEADER_SIZE + 1;
+
+// What a page is opened by.
+struct Named {
+    magic: u32,
+    page: PageID,
+    h: usize,
+}
+
+enum Name {
+    Is(Named),
+    NoName,
+}
+
+// One of the two magics that scripts have.
+fn magic_at(line: &[u8], k: usize) -> Word32 {
+    let Word32::Word(magic) = word32_at(line, k) else {
+        return Word32::NoWord;
+    };
+    if (magic == 0xA1) | (magic == 0xFFFF_FFFF) {
+        Word32::Word(magic)
+    } else {
+        Word32::NoWord
+    }
+}
+
+fn name_in(line: &[u8]) -> Name {
+    let Word32::Word(magic) = magic_at(line, 2) else {
+        return Name::NoName;
+    };
+    let Page::Number(page) = page_at(line, 3) else {
+        return Name::NoName;
+    };
+    let Number::Value(h) = number_at(line, 4) else {
+        return Name::NoName;
+    };
+    Name::Is(Named { magic, page, h })
+}
+
+fn kept_of(r: PageReader) -> DehydratedPageReader {
+    let page = r.page;
+    DehydratedPageReader {
+        page,
+        ended: r.ended,
+        offset: r.offset,
+        len: r.len,
+        crc: r.crc,
+        position: r.position,
+    }
+}
+
+fn reader_of(d: DehydratedPageReader) -> PageReader {
+    let page = d.page;
+    PageReader {
+        page,
+        ended: d.ended,
+        offset: d.offset,
+        len: d.len,
+        crc: d.crc,
+        position: d.position,
+    }
+}
+
+// The higher header, or the refusal.
+fn say_header(answer: Outcome, header: &[u8]) {
+    match answer {
+        Outcome::Done => {
+            say::ok();
+            say::bytes(header);
+        }
+        Outcome::Refused(why) => say::no(why),
+    }
+    say::end_of_line();
+}
+
+fn open_into(r: PageReader, flash: &[u8], named: Named, header: &mut [u8]) -> Opening {
+    let n = least(named.h, header.len());
+    let page = named.page;
+    r.open(flash, named.magic, page, &mut header[0..n])
+}
+
+fn open(w: World, line: &[u8], flash: &[u8]) -> World {
+    let mut header = [0; HEADER_ROOM];
+    let Name::Is(named) = name_in(line) else {
+        return w.stopped();
+    };
+    let r = w.reader;
+    let opening = open_into(r, flash, named, &mut header);
+    let answer = opening.answer;
+    say_header(answer, part_of(&header, 0, named.h));
+    let reader = opening.reader;
+    w.with_reader(reader)
+}
+
+fn header_into(flash: &[u8], named: Named, header: &mut [u8]) -> Outcome {
+    let n = least(named.h, header.len());
+    let page = named.page;
+    header::read_header(flash, named.magic, page, &mut header[0..n])
+}
+
+fn read_header(w: World, line: &[u8], flash: &[u8]) -> World {
+    let mut header = [0; HEADER_ROOM];
+    let Name::Is(named) = name_in(line) else {
+        return w.stopped();
+    };
+    let answer = header_into(flash, named, &mut header);
+    say_header(answer, part_of(&header, 0, named.h));
+    w
+}
+
+fn read_into(r: PageReader, flash: &[u8], room: usize, buffer: &mut [u8]) -> Passage {
+    let n = least(room, buffer.len());
+    r.read(flash, &mut buffer[0..n])
+}
+
+fn read(w: World, line: &[u8], flash: &[u8]) -> World {
+    let mut buffer = line_space();
+    let Number::Value(room) = number_at(line, 2) else {
+        return w.stopped();
+    };
+    if MOST_ROOM < room {
+        return w.stopped();
+    }
+    let r = w.reader;
+    let passage = read_into(r, flash, room, &mut buffer);
+    let answer = passage.answer;
+    match answer {
+        Count::Bytes(n) => {
+            say::ok();
+            say::bytes(part_of(&buffer, 0, n));
+        }
+        Count::Refused(why) => say::no(why),
+    }
+    say::end_of_line();
+    let reader = passage.reader;
+    w.with_reader(reader)
+}
+
+fn skip(w: World, line: &[u8], flash: &[u8]) -> World {
+    let Number::Value(count) = number_at(line, 2) else {
+        return w.stopped();
+    };
+    let r = w.reader;
+    let passage = r.skip(flash, count);
+    let answer = passage.answer;
+    match answer {
+        Count::Bytes(n) => {
+            say::ok();
+            say::number(n);
+        }
+        Count::Refused(why) => say::no(why),
+    }
+    say::end_of_line();
+    let reader = passage.reader;
+    w.with_reader(reader)
+}
+
+fn is_at_eof(w: World, flash: &[u8]) -> World {
+    let r = w.reader;
+    let tested = r.is_at_eof(flash);
+    let answer = tested.answer;
+    match answer {
+        EndTest::AtEnd => {
+            say::ok();
+            say::flag(true);
+        }
+        EndTest::More => {
+            say::ok();
+            say::flag(false);
+        }
+        EndTest::Refused(why) => say::no(why),
+    }
+    say::end_of_line();
+    let reader = tested.reader;
+    w.with_reader(reader)
+}
+
+fn page_id(w: World) -> World {
+    let r = w.reader;
+    match r.page_id() {
+        answers::Page::Number(page) => {
+            say::ok();
+            say::number(page.index());
+        }
+        answers::Page::Refused(why) => say::no(why),
+    }
+    say::end_of_line();
+    w
+}
+
+fn forge(w: World, line: &[u8]) -> World {
+    let Fields::Are(fields) = fields_at(line, 2) else {
+        return w.stopped();
+    };
+    say::done();
+    w.with_reader(reader_of(fields))
+}
+
+// Calls of two words.
+fn short(w: World, name: &[u8], flash: &[u8]) -> World {
+    if same(name, b"new") {
+        say::done();
+        return w.with_reader(PageReader::new());
+    }
+    if same(name, b"is_at_eof") {
+        return is_at_eof(w, flash);
+    }
+    if same(name, b"page_id") {
+        return page_id(w);
+    }
+    if same(name, b"state") {
+        let r = w.reader;
+        say_fields(kept_of(r));
+        return w;
+    }
+    w.stopped()
+}
+
+// Calls of three words.
+fn middle(w: World, name: &[u8], line: &[u8], flash: &[u8]) -> World {
+    if same(name, b"read") {
+        return read(w, line, flash);
+    }
+    if same(name, b"skip") {
+        return skip(w, line, flash);
+    }
+    if same(name, b"dehydrate") {
+        return slots::dehydrate(w, line);
+    }
+    if same(name, b"rehydrate_from") {
+        return slots::rehydrate_from(w, line, flash);
+    }
+    w.stopped()
+}
+
+fn of_reader(w: World, line: &[u8], flash: &[u8]) -> World {
+    let name = word_at(line, 1);
+    let words = word_count(line);
+    if words == 2 {
+        return short(w, name, flash);
+    }
+    if words == 3 {
+        return middle(w, name, line, flash);
+    }
+    if same(name, b"open") & (words == 5) {
+        return open(w, line, flash);
+    }
+    if same(name, b"read_header") & (words == 5) {
+        return read_header(w, line, flash);
+    }
+    if same(name, b"forge") & (words == 8) {
+        return forge(w, line);
+    }
+    w.stopped()
+}
 
 pub(crate) fn answer(w: World, line: &[u8], flash: &[u8]) -> World {
-    w.stopped()
+    if same(word_at(line, 0), b"slot") {
+        return slots::answer(w, line);
+    }
+    of_reader(w, line, part_of(flash, 0, w.flash_len))
 }

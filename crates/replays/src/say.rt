@@ -34,6 +34,12 @@ pub(crate) fn end_of_line() {
     text(b"\n");
 }
 
+// The whole answer of a call that has nothing to tell.
+pub(crate) fn done() {
+    ok();
+    end_of_line();
+}
+
 fn word(bytes: &[u8]) {
     text(b" ");
     text(bytes);

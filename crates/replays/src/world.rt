@@ -8,6 +8,7 @@ use reader::dehydrated::DehydratedPageReader;
 use reader::page_reader::PageReader;
 use types::config::FILE_COUNT;
 use types::config::PAGE_SIZE;
+use types::num::least;
 use types::page_id::PageID;
 use writer::page_writer::PageWriter;
 
@@ -84,6 +85,20 @@ impl World {
 
     pub(crate) fn with_reader(mut self, reader: PageReader) -> World {
         self.reader = reader;
+        self
+    }
+
+    pub(crate) fn slot(self, slot: usize) -> DehydratedPageReader {
+        let kept = self.kept;
+        let i = least(slot, SLOTS - 1);
+        kept[i]
+    }
+
+    pub(crate) fn with_slot(mut self, slot: usize, reader: DehydratedPageReader) -> World {
+        let mut kept = self.kept;
+        let i = least(slot, SLOTS - 1);
+        kept[i] = reader;
+        self.kept = kept;
         self
     }
 
