@@ -9,6 +9,7 @@ mod readers;
 mod runs;
 mod say;
 mod slots;
+mod stores;
 mod sums;
 mod world;
 mod writers;

@@ -84,3 +84,14 @@ pub(crate) fn bytes(bytes: &[u8]) {
     let n = encode(bytes, &mut digits);
     word(part_of(&digits, 0, n));
 }
+
+// An operation on the flash: an erase, or a store from an offset on.
+pub(crate) fn erase() {
+    word(b"e");
+}
+
+pub(crate) fn store(offset: usize, stored: &[u8]) {
+    word(b"s");
+    number(offset);
+    bytes(stored);
+}
