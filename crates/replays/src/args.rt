@@ -67,6 +67,18 @@ pub(crate) fn word32_at(line: &[u8], k: usize) -> Word32 {
     word32_in(word_at(line, k))
 }
 
+// One of the two magics that scripts have.
+pub(crate) fn magic_at(line: &[u8], k: usize) -> Word32 {
+    let Word32::Word(magic) = word32_at(line, k) else {
+        return Word32::NoWord;
+    };
+    if (magic == 0xA1) | (magic == 0xFFFF_FFFF) {
+        Word32::Word(magic)
+    } else {
+        Word32::NoWord
+    }
+}
+
 pub(crate) fn flag_at(line: &[u8], k: usize) -> Flag {
     let word = word_at(line, k);
     if same(word, b"1") {

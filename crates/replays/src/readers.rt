@@ -1,8 +1,8 @@
 // Calls on the reader.
 use crate::args::Page;
+use crate::args::magic_at;
 use crate::args::number_at;
 use crate::args::page_at;
-use crate::args::word32_at;
 use crate::say;
 use crate::slots;
 use crate::slots::Fields;
@@ -45,18 +45,6 @@ struct Named {
 enum Name {
     Is(Named),
     NoName,
-}
-
-// One of the two magics that scripts have.
-fn magic_at(line: &[u8], k: usize) -> Word32 {
-    let Word32::Word(magic) = word32_at(line, k) else {
-        return Word32::NoWord;
-    };
-    if (magic == 0xA1) | (magic == 0xFFFF_FFFF) {
-        Word32::Word(magic)
-    } else {
-        Word32::NoWord
-    }
 }
 
 fn name_in(line: &[u8]) -> Name {

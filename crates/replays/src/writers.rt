@@ -3,6 +3,7 @@ use crate::args::Flag;
 use crate::args::Page;
 use crate::args::bytes_at;
 use crate::args::flag_at;
+use crate::args::magic_at;
 use crate::args::number_at;
 use crate::args::page_at;
 use crate::args::word32_at;
@@ -29,14 +30,8 @@ use writer::answers::Place;
 use writer::answers::Taking;
 use writer::page_writer::PageWriter;
 
-// The two that the original's headers were made with.
-fn is_magic(magic: u32) -> bool {
-    (magic == 0x0000_00A1) | (magic == 0xFFFF_FFFF)
-}
-
 fn new_writer(w: World) -> World {
-    say::ok();
-    say::end_of_line();
+    say::done();
     w.with_writer(PageWriter::new(), w.left)
 }
 
@@ -44,8 +39,7 @@ fn left(w: World, line: &[u8]) -> World {
     let Number::Value(n) = number_at(line, 2) else {
         return w.stopped();
     };
-    say::ok();
-    say::end_of_line();
+    say::done();
     let writer = w.writer;
     w.with_writer(writer, n)
 }
@@ -130,12 +124,9 @@ fn commit(w: World, flash: &mut [u8]) -> World {
 
 fn write_header(w: World, line: &[u8], flash: &mut [u8]) -> World {
     let mut space = line_space();
-    let Word32::Word(magic) = word32_at(line, 2) else {
+    let Word32::Word(magic) = magic_at(line, 2) else {
         return w.stopped();
     };
-    if !is_magic(magic) {
-        return w.stopped();
-    }
     let Number::Value(n) = bytes_at(line, 3, &mut space) else {
         return w.stopped();
     };
@@ -210,8 +201,7 @@ fn forge(w: World, line: &[u8]) -> World {
     let Number::Value(pending) = number_at(line, 9) else {
         return w.stopped();
     };
-    say::ok();
-    say::end_of_line();
+    say::done();
     let writer = PageWriter {
         page,
         h,

@@ -19,10 +19,6 @@ pub fn line_space() -> [u8; 16384]
     [0; 16384]
 }
 
-// Room for a flash of one page more than there can be, erased.
-pub fn flash_space() -> [u8; 1052672]
-    ensures answers { λ r. ⌜ r ≡ blank 255 1052672 ⌝ }
-    ensures { λ r. ⌜ 1052672 ≡ length r ⌝ }
 // Room for the bytes of one page.
 pub fn page_space() -> [u8; 4096]
     ensures answers { λ r. ⌜ r ≡ blank 0 4096 ⌝ }
@@ -31,10 +27,10 @@ pub fn page_space() -> [u8; 4096]
     [0; 4096]
 }
 
-// Room for a flash, erased.
-pub fn flash_space() -> [u8; 65536]
-    ensures answers { λ r. ⌜ r ≡ blank 255 65536 ⌝ }
-    ensures { λ r. ⌜ 65536 ≡ length r ⌝ }
+// Room for a flash of one page more than there can be, erased.
+pub fn flash_space() -> [u8; 1052672]
+    ensures answers { λ r. ⌜ r ≡ blank 255 1052672 ⌝ }
+    ensures { λ r. ⌜ 1052672 ≡ length r ⌝ }
 {
     [255; 1052672]
 }
