@@ -55,7 +55,11 @@ impl<'a> Words<'a> {
     }
 
     pub fn flag(&mut self) -> Result<bool, Fault> {
-        Ok(self.number_to(1)? == 1)
+        match self.word()? {
+            "0" => Ok(false),
+            "1" => Ok(true),
+            word => Err(format!("not 0 or 1: {word:.40}")),
+        }
     }
 
     /// Eight hex digits, the highest first.
