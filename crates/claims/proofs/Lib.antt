@@ -12,3 +12,4 @@ pub mod GoodLaws
 pub mod GroupLaws
 pub mod HistoryLaws
 pub mod PageCutLaws
+pub mod StarredNumbers

@@ -2,3 +2,4 @@ pub mod Additions
 pub mod Again
 pub mod Pages
 pub mod Histories
+pub mod Starred

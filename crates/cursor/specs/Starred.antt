@@ -3,6 +3,7 @@
 use mathlib.Core.List.{List, [], _∷_, _++_}
 use Prim.Native.Nat.{ℕ, _+_}
 use lib.ListN.{length, take, replicate}
+use Rattle.run.specs.RecordTable.{liveA, deletedA}
 use Rattle.run.specs.declared.bound.Bound.the-variants.{Unbounded}
 use Rattle.cursor.specs.Answers.{nextNumber, nextValues}
 use Rattle.cursor.specs.New.{newOf}
@@ -16,18 +17,15 @@ use Rattle.cursor.specs.declared.place.RunPlace.{RunPlace}
 
 -- ---- the runs
 
--- a = 1, as the page has its bytes; b = 2; c = 3; a deleted, as the page has its bytes
-unfoldable pub liveA : List ℕ
-liveA = 0x48 ∷ 0x56 ∷ 0x00 ∷ 0x01 ∷ 0x01 ∷ 0x00 ∷ 0x61 ∷ 0x31 ∷ []
-
+-- b = 2, c = 3; document 01 has the bytes of a = 1 and of a deleted
 unfoldable pub liveB : List ℕ
 liveB = 0x48 ∷ 0x56 ∷ 0x00 ∷ 0x01 ∷ 0x01 ∷ 0x00 ∷ 0x62 ∷ 0x32 ∷ []
 
 unfoldable pub liveC : List ℕ
 liveC = 0x48 ∷ 0x56 ∷ 0x00 ∷ 0x01 ∷ 0x01 ∷ 0x00 ∷ 0x63 ∷ 0x33 ∷ []
 
-unfoldable pub deletedA : List ℕ
-deletedA = 0x48 ∷ 0x56 ∷ 0x01 ∷ 0x01 ∷ 0x00 ∷ 0x00 ∷ 0x61 ∷ []
+unfoldable pub bothRuns : List (List ℕ)
+bothRuns = (liveA .bytes ++ liveC) ∷ (deletedA .bytes ++ liveB) ∷ []
 
 -- runs one behind the other, and where each ends
 unfoldable pub joined : List (List ℕ) → List ℕ
@@ -112,18 +110,24 @@ call keyRoom valueRoom number values key value places = record {
   gives = record { number = number; values = values; key = key; value = value; places = places };
 }
 
--- {a=1, c=3}, {a deleted, b=2}: b, c, End; and with a key buffer of 0 first: 2, both runs past a, then b
-unfoldable pub starred : List Case
-starred =
+-- {a=1, c=3}, {a deleted, b=2}: b, c, End
+unfoldable pub roomForAll : Case
+roomForAll =
     record {
-      runs = (liveA ++ liveC) ∷ (deletedA ++ liveB) ∷ [];
+      runs = bothRuns;
       calls = call 64 1024 0 (1 ∷ 1 ∷ []) (0x62 ∷ []) (0x32 ∷ []) (At 8 ∷ At 15 ∷ [])
           ∷ call 64 1024 0 (1 ∷ 1 ∷ []) (0x63 ∷ []) (0x33 ∷ []) (At 16 ∷ Gone ∷ [])
           ∷ call 64 1024 0 [] [] [] (Gone ∷ Gone ∷ [])
           ∷ [];
     }
-    ∷ record {
-      runs = (liveA ++ liveC) ∷ (deletedA ++ liveB) ∷ [];
+
+-- the same with a key buffer of 0 first: 2, both runs past a; with room: b
+unfoldable pub noRoomFirst : Case
+noRoomFirst =
+    record {
+      runs = bothRuns;
       calls = call 0 1024 2 [] [] [] (At 8 ∷ At 7 ∷ []) ∷ call 64 1024 0 (1 ∷ 1 ∷ []) (0x62 ∷ []) (0x32 ∷ []) (At 8 ∷ At 15 ∷ []) ∷ [];
     }
-    ∷ []
+
+unfoldable pub starred : List Case
+starred = roomForAll ∷ noRoomFirst ∷ []

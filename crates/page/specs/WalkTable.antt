@@ -14,14 +14,28 @@ pub record WalkCase : Type 0 where
   pub len : ℕ
   pub finds : Step
 
+-- walk at 4088 reads a header
+abbrev pub headerAt4088 : WalkCase
+headerAt4088 = record { offset = 4088; len = 0; finds = Chunk 0 0 4096 }
+
+-- at 4092 it is the end
+abbrev pub endAt4092 : WalkCase
+endAt4092 = record { offset = 4092; len = 0; finds = End }
+
+-- len 4076 at offset 12 fits
+abbrev pub longestAt12 : WalkCase
+longestAt12 = record { offset = 12; len = 4076; finds = Chunk 4076 0 4096 }
+
+-- at 16 Corrupted
+abbrev pub longestAt16 : WalkCase
+longestAt16 = record { offset = 16; len = 4076; finds = Corrupted }
+
+-- 4077 Corrupted
+abbrev pub tooLong : WalkCase
+tooLong = record { offset = 12; len = 4077; finds = Corrupted }
+
 abbrev pub walkCases : List WalkCase
-walkCases =
-    record { offset = 4088; len = 0; finds = Chunk 0 0 4096 }
-    ∷ record { offset = 4092; len = 0; finds = End }
-    ∷ record { offset = 12; len = 4076; finds = Chunk 4076 0 4096 }
-    ∷ record { offset = 16; len = 4076; finds = Corrupted }
-    ∷ record { offset = 12; len = 4077; finds = Corrupted }
-    ∷ []
+walkCases = headerAt4088 ∷ endAt4092 ∷ longestAt12 ∷ longestAt16 ∷ tooLong ∷ []
 
 -- what the walk does find
 unfoldable pub walkOutcome : WalkCase → Step

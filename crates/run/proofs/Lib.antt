@@ -4,4 +4,5 @@ pub mod KeyLaws
 pub mod OrderLaws
 pub mod PartLaws
 pub mod RecordLaws
+pub mod RecordTableLaws
 pub mod SearchLaws

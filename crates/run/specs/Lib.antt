@@ -3,5 +3,6 @@ pub mod Bounds
 pub mod Items
 pub mod Keys
 pub mod Parts
+pub mod RecordTable
 pub mod Records
 pub mod Search
