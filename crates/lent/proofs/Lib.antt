@@ -1,1 +1,5 @@
+pub mod InPlace
+pub mod LentAllocator
+pub mod LentSteps
 pub mod StepLaws
+pub mod Through
