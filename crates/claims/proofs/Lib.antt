@@ -11,5 +11,16 @@ pub mod ErasedLaws
 pub mod GoodLaws
 pub mod GroupLaws
 pub mod HistoryLaws
+pub mod OneAlloc
+pub mod OneCrc
+pub mod OneCursor
+pub mod OneFlash
+pub mod OnePage
+pub mod OneReader
+pub mod OneRun
+pub mod OneScript
+pub mod OneTypes
+pub mod OneWriter
+pub mod OutcomeLaws
 pub mod PageCutLaws
 pub mod StarredNumbers

@@ -3,3 +3,4 @@ pub mod Again
 pub mod Pages
 pub mod Histories
 pub mod Starred
+pub mod Outcomes

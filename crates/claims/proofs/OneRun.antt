@@ -1,0 +1,39 @@
+-- One outcome for every function of `run` that is open to callers: each line cites the function's own promise. Assumes nothing.
+use Rattle.run.proofs.bound.past.Reads.{Learnt as past}
+use Rattle.run.proofs.order.compare.Reads.{Learnt as compare}
+use Rattle.run.proofs.part.part.Reads.{Learnt as part}
+use Rattle.run.proofs.record.Head.number.Reads.{Learnt as Head-number}
+use Rattle.run.proofs.record.Record.key_in.Reads.{Learnt as Record-key-in}
+use Rattle.run.proofs.record.Record.value_in.Reads.{Learnt as Record-value-in}
+use Rattle.run.proofs.record.head_at.Reads.{Learnt as head-at}
+use Rattle.run.proofs.search.Sought.number.Reads.{Learnt as Sought-number}
+use Rattle.run.proofs.search.search.Reads.{Learnt as search}
+use Rattle.claims.specs.Outcomes.{OneOutcome}
+use Rattle.claims.proofs.OutcomeLaws.{one}
+
+pub one-past : OneOutcome past (λ r e. r)
+one-past k a r r′ e e′ p q = one p q
+
+pub one-compare : OneOutcome compare (λ r e. r)
+one-compare k a r r′ e e′ p q = one p q
+
+pub one-part : OneOutcome part (λ r e. r .now)
+one-part k a r r′ e e′ p q = one p q
+
+pub one-Head-number : OneOutcome Head-number (λ r e. r)
+one-Head-number k a r r′ e e′ p q = one p q
+
+pub one-Record-key-in : OneOutcome Record-key-in (λ r e. r .now)
+one-Record-key-in k a r r′ e e′ p q = one p q
+
+pub one-Record-value-in : OneOutcome Record-value-in (λ r e. r .now)
+one-Record-value-in k a r r′ e e′ p q = one p q
+
+pub one-head-at : OneOutcome head-at (λ r e. r)
+one-head-at k a r r′ e e′ p q = one p q
+
+pub one-Sought-number : OneOutcome Sought-number (λ r e. r)
+one-Sought-number k a r r′ e e′ p q = one p q
+
+pub one-search : OneOutcome search (λ r e. r)
+one-search k a r r′ e e′ p q = one p q
