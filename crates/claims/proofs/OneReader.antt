@@ -8,6 +8,11 @@ use Rattle.reader.proofs.page_reader.PageReader.is_at_eof.Reads.{Learnt as Page
 use Rattle.reader.proofs.page_reader.PageReader.dehydrate.Reads.{Learnt as PageReader-dehydrate}
 use Rattle.reader.proofs.page_reader.PageReader.rehydrate_from.Reads.{Learnt as PageReader-rehydrate-from}
 use Rattle.reader.proofs.page_reader.PageReader.page_id.Reads.{Learnt as PageReader-page-id}
+use Rattle.reader.proofs.answers.Outcome.number.Reads.{Learnt as Outcome-number}
+use Rattle.reader.proofs.answers.Count.number.Reads.{Learnt as Count-number}
+use Rattle.reader.proofs.answers.EndTest.number.Reads.{Learnt as EndTest-number}
+use Rattle.reader.proofs.answers.Dehydration.number.Reads.{Learnt as Dehydration-number}
+use Rattle.reader.proofs.answers.Page.number.Reads.{Learnt as Page-number}
 use Rattle.claims.specs.Outcomes.{OneOutcome, beside}
 use Rattle.claims.proofs.OutcomeLaws.{one, two}
 
@@ -37,3 +42,18 @@ one-PageReader-rehydrate-from k a r r′ e e′ p q = one p q
 
 pub one-PageReader-page-id : OneOutcome PageReader-page-id (λ r e. r)
 one-PageReader-page-id k a r r′ e e′ p q = one p q
+
+pub one-Outcome-number : OneOutcome Outcome-number (λ r e. r)
+one-Outcome-number k a r r′ e e′ p q = one p q
+
+pub one-Count-number : OneOutcome Count-number (λ r e. r)
+one-Count-number k a r r′ e e′ p q = one p q
+
+pub one-EndTest-number : OneOutcome EndTest-number (λ r e. r)
+one-EndTest-number k a r r′ e e′ p q = one p q
+
+pub one-Dehydration-number : OneOutcome Dehydration-number (λ r e. r)
+one-Dehydration-number k a r r′ e e′ p q = one p q
+
+pub one-Page-number : OneOutcome Page-number (λ r e. r)
+one-Page-number k a r r′ e e′ p q = one p q

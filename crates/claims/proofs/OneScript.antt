@@ -10,6 +10,10 @@ use Rattle.script.proofs.space.line_space.Reads.{Learnt as line-space}
 use Rattle.script.proofs.words.end_from.Reads.{Learnt as end-from}
 use Rattle.script.proofs.words.word_at.Reads.{Learnt as word-at}
 use Rattle.script.proofs.words.word_count.Reads.{Learnt as word-count}
+use Rattle.script.proofs.space.page_space.Reads.{Learnt as page-space}
+use Rattle.script.proofs.space.flash_space.Reads.{Learnt as flash-space}
+use Rattle.script.proofs.space.runs_space.Reads.{Learnt as runs-space}
+use Rattle.script.proofs.space.all_runs_space.Reads.{Learnt as all-runs-space}
 use Rattle.script.specs.Hex.{bufferAfter}
 use Rattle.script.specs.declared.hex.Decoded.{Decoded}
 use Rattle.claims.specs.Outcomes.{OneOutcome, beside}
@@ -47,3 +51,15 @@ one-word-at k a r r′ e e′ p q = one p q
 
 pub one-word-count : OneOutcome word-count (λ r e. r)
 one-word-count k a r r′ e e′ p q = one p q
+
+pub one-page-space : OneOutcome page-space (λ r e. r)
+one-page-space k a r r′ e e′ p q = one (p .0) (q .0)
+
+pub one-flash-space : OneOutcome flash-space (λ r e. r)
+one-flash-space k a r r′ e e′ p q = one (p .0) (q .0)
+
+pub one-runs-space : OneOutcome runs-space (λ r e. r)
+one-runs-space k a r r′ e e′ p q = one (p .0) (q .0)
+
+pub one-all-runs-space : OneOutcome all-runs-space (λ r e. r)
+one-all-runs-space k a r r′ e e′ p q = one (p .0) (q .0)
