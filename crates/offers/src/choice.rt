@@ -1,6 +1,6 @@
 // What the arguments ask for. Keys and names stay where they are: only their places are kept.
-use crate::say::wrong;
 use check::same;
+use desk::say::wrong;
 use flash::part::part_of;
 use run::bound::Bound;
 use types::config::FILE_COUNT;
@@ -60,7 +60,7 @@ impl Choice {
     // After an argument that cannot be taken; only the first such one is said.
     fn stopped(mut self, what: &[u8], argument: &[u8]) -> Choice {
         if self.fine {
-            wrong(what, argument);
+            wrong(b"offers", what, argument);
         }
         self.fine = false;
         self

@@ -1,51 +1,11 @@
 // The runs, read one behind the other into one buffer.
 use crate::choice::Choice;
-use crate::say::text;
-use crate::say::wrong;
-use libc::read;
+use desk::files::Filled;
+use desk::files::read_file;
 use types::config::FILE_COUNT;
 
-enum Filled {
-    To(usize),
-    Bad,
-}
-
-// Says why the last call failed.
-fn fail(name: &[u8]) {
-    text(b"offers: ");
-    os::fail(name);
-}
-
-// The file's bytes from an index on: where they end.
-fn fill(fd: i32, name: &[u8], room: &mut [u8], at: usize) -> Filled {
-    let mut more = [0; 1];
-    if room.len() < at {
-        return Filled::Bad;
-    }
-    let n = io::read_full(fd, &mut room[at..]);
-    let rest = read(fd, &mut more);
-    if rest < 0 {
-        fail(name);
-        return Filled::Bad;
-    }
-    if 0 < rest {
-        wrong(b"more than 1114112 bytes in all runs", name);
-        return Filled::Bad;
-    }
-    Filled::To(at + n)
-}
-
-fn read_file(i: usize, room: &mut [u8], at: usize) -> Filled {
-    let mut name = io::buffer();
-    let n = os::arg(i, &mut name);
-    let fd = os::open_read(&name[..n]);
-    if fd < 0 {
-        fail(&name[..n]);
-        return Filled::Bad;
-    }
-    let filled = fill(fd, &name[..n], room, at);
-    libc::close(fd);
-    filled
+fn read_run(i: usize, room: &mut [u8], at: usize) -> Filled {
+    read_file(b"offers", i, room, at)
 }
 
 // Reads every run that was named, and answers whether all could be read.
@@ -58,7 +18,7 @@ pub(crate) fn read_all(c: Choice, room: &mut [u8], ends: &mut [usize; FILE_COUNT
         if files <= k {
             return true;
         }
-        let Filled::To(end) = read_file(names[k], room, at) else {
+        let Filled::To(end) = read_run(names[k], room, at) else {
             return false;
         };
         at = end;

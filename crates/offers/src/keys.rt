@@ -1,6 +1,6 @@
 // A bound's key, as an argument has it: \xNN is a byte, \\ a backslash, any other byte itself.
 use crate::line::put;
-use crate::say::wrong;
+use desk::say::wrong;
 use flash::part::part_of;
 use script::hex::Decoded;
 use script::hex::decode;
@@ -88,12 +88,20 @@ pub(crate) fn key_after(i: usize, out: &mut [u8]) -> Key {
     let mut space = io::buffer();
     let n = os::arg(i + 1, &mut space);
     if os::errno() != 0 {
-        wrong(b"a key is longer than 4096 bytes", part_of(&space, 0, 60));
+        wrong(
+            b"offers",
+            b"a key is longer than 4096 bytes",
+            part_of(&space, 0, 60),
+        );
         return Key::Bad;
     }
     let key = unescape(&space[..n], out);
     if let Key::Bad = key {
-        wrong(b"a backslash in a key is \\\\ or \\xNN", &space[..n]);
+        wrong(
+            b"offers",
+            b"a backslash in a key is \\\\ or \\xNN",
+            &space[..n],
+        );
     }
     key
 }

@@ -9,11 +9,11 @@ use crate::places::is_bad;
 use crate::places::last_end;
 use crate::places::run_of;
 use crate::places::stops_search;
-use crate::say;
 use cursor::answer::NewAnswer;
 use cursor::answer::NextAnswer;
 use cursor::place::Cursor;
 use cursor::place::Place;
+use desk::say;
 use flash::part::part_of;
 use libc::STDOUT_FILENO;
 use run::bound::Bound;
@@ -22,6 +22,10 @@ use types::config::FILE_COUNT;
 use types::config::MAX_KEY_SIZE;
 use types::config::MAX_VALUE_SIZE;
 use types::refusal::Refusal;
+
+fn say_refusal(why: Refusal) {
+    say::refusal(b"offers", why);
+}
 
 fn say_place(c: Choice, i: usize, at: usize) {
     let mut name = io::buffer();
@@ -39,7 +43,7 @@ fn say_place(c: Choice, i: usize, at: usize) {
 // A refusal on the way to the first entry.
 fn say_start_refused(c: Choice, runs: &[u8], ends: &[usize], lower: &[u8], why: Refusal) {
     let bound = c.lower();
-    say::refusal(why);
+    say_refusal(why);
     for i in 0..ends.len() {
         let run = run_of(runs, ends, i);
         if stops_search(run, bound, lower) {
@@ -54,7 +58,7 @@ fn say_start_refused(c: Choice, runs: &[u8], ends: &[usize], lower: &[u8], why: 
 // A refusal on the way from one entry to the next.
 fn say_next_refused(c: Choice, runs: &[u8], ends: &[usize], cursor: Cursor, why: Refusal) {
     let places = cursor.places;
-    say::refusal(why);
+    say_refusal(why);
     for i in 0..FILE_COUNT {
         let p = places[i];
         let place = p.place;

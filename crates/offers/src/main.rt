@@ -6,7 +6,6 @@ mod keys;
 mod line;
 mod listing;
 mod places;
-mod say;
 
 use choice::Choice;
 use choice::chosen;

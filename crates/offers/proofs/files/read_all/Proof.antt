@@ -22,14 +22,14 @@ same-length c = omega arith
 returns : tie.Need-returns Inv-loop μ-loop
 returns c = search needs
 
-mul-read-file : tie.Need-mul-read-file Inv-loop μ-loop
-mul-read-file c = omega arith
+mul-read-run : tie.Need-mul-read-run Inv-loop μ-loop
+mul-read-run c = omega arith
 
-array-read-read-file : tie.Need-array-read-read-file Inv-loop μ-loop
-array-read-read-file c = omega arith
+array-read-read-run : tie.Need-array-read-read-run Inv-loop μ-loop
+array-read-read-run c = omega arith
 
-read-file-requires : tie.Need-read-file-requires Inv-loop μ-loop
-read-file-requires c κs = search needs
+read-run-requires : tie.Need-read-run-requires Inv-loop μ-loop
+read-run-requires c κs = search needs
 
 enum-known-end : tie.Need-enum-known-end Inv-loop μ-loop
 enum-known-end c = search needs
@@ -73,9 +73,9 @@ read-all-spec =
     loop-holds
     same-length
     returns
-    mul-read-file
-    array-read-read-file
-    read-file-requires
+    mul-read-run
+    array-read-read-run
+    read-run-requires
     enum-known-end
     enum-told
     same-length-2

@@ -11,8 +11,8 @@ Inv-loop c runs ends places i₀ i = i ≤ 17
 abbrev μ-loop : tie.MeasureT-loop
 μ-loop c runs ends places i₀ i = 17 - i
 
-refusal-requires : tie.Need-refusal-requires Inv-loop μ-loop
-refusal-requires c κs = search needs
+say-refusal-requires : tie.Need-say-refusal-requires Inv-loop μ-loop
+say-refusal-requires c κs = search needs
 
 loop-holds : tie.Need-loop-holds Inv-loop μ-loop
 loop-holds c = omega arith
@@ -65,7 +65,7 @@ say-next-refused-spec =
     (tie.spec
     Inv-loop
     μ-loop
-    refusal-requires
+    say-refusal-requires
     loop-holds
     mul-p
     array-copy-out-p

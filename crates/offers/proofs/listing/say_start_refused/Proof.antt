@@ -14,8 +14,8 @@ abbrev μ-loop : tie.MeasureT-loop
 lower-requires : tie.Need-lower-requires Inv-loop μ-loop
 lower-requires c κs = search needs
 
-refusal-requires : tie.Need-refusal-requires Inv-loop μ-loop
-refusal-requires c κs = search needs
+say-refusal-requires : tie.Need-say-refusal-requires Inv-loop μ-loop
+say-refusal-requires c κs = search needs
 
 loop-holds : tie.Need-loop-holds Inv-loop μ-loop
 loop-holds c = omega arith
@@ -60,7 +60,7 @@ say-start-refused-spec =
     Inv-loop
     μ-loop
     lower-requires
-    refusal-requires
+    say-refusal-requires
     loop-holds
     run-of-requires
     stops-search-requires

@@ -1,18 +1,19 @@
-// Words on standard error.
+// Words on standard error. Each line starts with the program's name, which its caller gives first.
 use libc::STDERR_FILENO;
 use types::refusal::Refusal;
 
-pub(crate) fn text(bytes: &[u8]) {
+pub fn text(bytes: &[u8]) {
     io::write_all(STDERR_FILENO, bytes);
 }
 
-pub(crate) fn number(n: usize) {
+pub fn number(n: usize) {
     io::print_decimal(STDERR_FILENO, n as u64);
 }
 
 // What is wrong, and with which argument.
-pub(crate) fn wrong(what: &[u8], argument: &[u8]) {
-    text(b"offers: ");
+pub fn wrong(program: &[u8], what: &[u8], argument: &[u8]) {
+    text(program);
+    text(b": ");
     text(what);
     text(b": ");
     text(argument);
@@ -37,8 +38,9 @@ fn name_of(why: Refusal) {
 }
 
 // A refusal's name and number; where it is, the caller says next.
-pub(crate) fn refusal(why: Refusal) {
-    text(b"offers: ");
+pub fn refusal(program: &[u8], why: Refusal) {
+    text(program);
+    text(b": ");
     name_of(why);
     text(b" (");
     number(why.number() as usize);
@@ -46,6 +48,6 @@ pub(crate) fn refusal(why: Refusal) {
 }
 
 // The last line of a run that was refused.
-pub(crate) fn refused() {
+pub fn refused() {
     text(b"\nrefused\n");
 }
