@@ -32,8 +32,8 @@ use types::page_id::PageID;
 // The longest buffer that a script reads into.
 const MOST_ROOM: usize = 8192;
 
-// Room for every higher header and one byte more: a longer one is refused as that is.
-const HEADER_ROOM: usize = MAX_HEADER_SIZE + 1;
+// Room for every higher header and for the next that keeps the alignment; a longer one is asked for as if it were that one, and refused as it is.
+const HEADER_ROOM: usize = MAX_HEADER_SIZE + 4;
 
 // What a page is opened by.
 struct Named {

@@ -22,6 +22,13 @@ pub fn writers() -> Vec<String> {
     for left in 0..=4 {
         calls.cut_from_the_erase(left);
     }
+    for h in [0, 4, 64] {
+        for left in 0..=4 {
+            calls.cut_in_a_write(h, left);
+            calls.cut_in_the_last_write(h, left);
+        }
+    }
+    calls.on_another_page();
     calls.limits();
     calls.list
 }
@@ -95,6 +102,46 @@ impl Calls {
         self.say(&format!("flash fill 0 0 4096 5a|writer open 0 0|writer left {left}"));
         self.say("writer write_header 000000a1 -|writer state|writer write 0102030405|writer state|writer commit");
         self.say("writer state|flash sum 0|writer left 9|writer commit|flash sum 0");
+    }
+
+    /// A write that owes the erase, the group that it completes and the whole groups behind it, with so many stores.
+    fn cut_in_a_write(&mut self, h: usize, left: usize) {
+        self.say(&format!(
+            "flash fill 0 0 4096 5a|writer open 0 {h}|writer left 1000|writer write 010203"
+        ));
+        self.say(&format!("flash fill 0 0 4096 a5|writer open 0 {h}|writer left {left}"));
+        self.say("writer write 0102030405060708090a|writer state|flash sum 0");
+        self.page(h);
+        self.say(&format!(
+            "writer write 010203|writer left {left}|writer write 0405060708090a0b0c0d"
+        ));
+        self.say("writer state|flash sum 0|writer left 1000|writer commit|writer state");
+        self.read_back(h);
+    }
+
+    /// The write that fills a chunk, which commits it.
+    fn cut_in_the_last_write(&mut self, h: usize, left: usize) {
+        let most = 4076 - h;
+        self.page(h);
+        let (first, last) = (hex(&any(&mut self.rng, most - 6)), hex(&any(&mut self.rng, 9)));
+        self.say(&format!(
+            "writer write {first}|writer left {left}|writer write {last}|writer state|flash sum 0"
+        ));
+        self.say("writer left 1000|writer commit|writer state");
+        self.read_back(h);
+        self.say(&format!("writer open_append 0 {h}|writer state"));
+    }
+
+    /// Stores on a page that is not the first, beside others, and a page whose chunks are damaged.
+    fn on_another_page(&mut self) {
+        self.say("flash pages 3|writer left 1000|writer open 2 8|writer write_header 000000a1 0102030405060708");
+        self.say("writer write 0a0b0c0d0e|writer commit|writer page_id|flash sum 0|flash sum 1|flash sum 2");
+        self.say(
+            "writer open_append 2 8|writer write 0f|writer commit|reader open 000000a1 2 8|reader read 9|reader read 9",
+        );
+        self.say(
+            "flash poke 2 22 ffff|writer open_append 2 8|writer state|flash poke 2 22 ed0f|writer open_append 2 8",
+        );
     }
 
     /// The last offsets, no room, nothing pending, and what is refused.
