@@ -15,13 +15,13 @@ use Rattle.alloc.specs.Search.{roundFrom}
 use Rattle.alloc.specs.State.{marked, movedPast, Sized}
 use Rattle.alloc.specs.declared.allocator.Allocator.{Allocator}
 use Rattle.alloc.specs.declared.answers.Allocated.the-variants.{Page}
-use Rattle.alloc.specs.declared.checks.Check.{Check}
-use Rattle.alloc.specs.declared.checks.Check.the-variants.{Fine, Refused}
+use Rattle.types.specs.declared.refusal.Verdict.{Verdict}
+use Rattle.types.specs.declared.refusal.Verdict.the-variants.{Fine, Refused}
 use Rattle.alloc.proofs.FirstLaws.{First, first-says, says-first, length-roundFrom, roundFrom-at, found-below}
 use Rattle.alloc.proofs.MarksLaws.{length-marksOf, marksOf-marking}
 use Rattle.alloc.proofs.StateLaws.{InRange, fine-state, state-fine, next-le}
 
-page-after : (k : Check) (a : Allocator) (m : MaybePageID) (page : PageID) → allocationAfter k a (handingOut a m) .answer ≡ Page page → (k ≡ Fine) × (m ≡ maybe.Some page)
+page-after : (k : Verdict) (a : Allocator) (m : MaybePageID) (page : PageID) → allocationAfter k a (handingOut a m) .answer ≡ Page page → (k ≡ Fine) × (m ≡ maybe.Some page)
 page-after (Refused why) a m page e = let z : _≡_ {A = ℕ} 0 1 = cc in absurd (omega arith)
 page-after Fine a maybe.None page e = let z : _≡_ {A = ℕ} 0 1 = cc in absurd (omega arith)
 page-after Fine a (maybe.Some q) page e = let f : q ≡ page = cc in (refl, ap maybe.Some f)

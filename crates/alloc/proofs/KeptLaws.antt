@@ -21,8 +21,8 @@ use Rattle.alloc.specs.State.{allFree, marked, freed, movedPast, Sized, 
 use Rattle.alloc.specs.declared.allocator.Allocator.{Allocator}
 use Rattle.alloc.specs.declared.answers.Allocation.{Allocation}
 use Rattle.alloc.specs.declared.answers.Change.{Change}
-use Rattle.alloc.specs.declared.checks.Check.{Check}
-use Rattle.alloc.specs.declared.checks.Check.the-variants.{Fine, Refused}
+use Rattle.types.specs.declared.refusal.Verdict.{Verdict}
+use Rattle.types.specs.declared.refusal.Verdict.the-variants.{Fine, Refused}
 use Rattle.alloc.proofs.HandedLaws.{found-free}
 use Rattle.alloc.proofs.MarksLaws.{no-bits-of-zero, countOf-append, countOf-split, countOf-mark, countOf-free, length-marksOf, marksOf-marking, marksOf-freeing}
 use Rattle.alloc.proofs.StateLaws.{InRange, Sound, in-range, is-in-range, fine-page, fine-count}
@@ -83,11 +83,11 @@ freed-sized a p s = simp length-set s
 -- ---- calls
 
 -- what holds of an allocator as it was, and of the one that the work leaves, holds of what a checked call leaves
-after-change : (P : Allocator → Type 0) (k : Check) (a : Allocator) (work : Change) → P a → (k ≡ Fine → P (work .allocator)) → P (changeAfter k a work .allocator)
+after-change : (P : Allocator → Type 0) (k : Verdict) (a : Allocator) (work : Change) → P a → (k ≡ Fine → P (work .allocator)) → P (changeAfter k a work .allocator)
 after-change P (Refused why) a work p f = p
 after-change P Fine a work p f = f refl
 
-after-allocation : (P : Allocator → Type 0) (k : Check) (a : Allocator) (work : Allocation) → P a → (k ≡ Fine → P (work .allocator)) → P (allocationAfter k a work .allocator)
+after-allocation : (P : Allocator → Type 0) (k : Verdict) (a : Allocator) (work : Allocation) → P a → (k ≡ Fine → P (work .allocator)) → P (allocationAfter k a work .allocator)
 after-allocation P (Refused why) a work p f = p
 after-allocation P Fine a work p f = f refl
 

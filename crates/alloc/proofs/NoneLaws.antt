@@ -17,8 +17,8 @@ use Rattle.alloc.specs.Search.{roundFrom}
 use Rattle.alloc.specs.State.{Sized}
 use Rattle.alloc.specs.declared.allocator.Allocator.{Allocator}
 use Rattle.alloc.specs.declared.answers.Allocated.the-variants.{None}
-use Rattle.alloc.specs.declared.checks.Check.{Check}
-use Rattle.alloc.specs.declared.checks.Check.the-variants.{Fine, Refused}
+use Rattle.types.specs.declared.refusal.Verdict.{Verdict}
+use Rattle.types.specs.declared.refusal.Verdict.the-variants.{Fine, Refused}
 use Rattle.alloc.proofs.FirstLaws.{none-says, says-none, length-roundFrom, roundFrom-at}
 use Rattle.alloc.proofs.MarksLaws.{countOf-split, countOf-le, length-marksOf}
 use Rattle.alloc.proofs.RoundLaws.{round-every}
@@ -85,7 +85,7 @@ used-none a r h = says-none (marksOf (a .pages)) (roundFrom (a .«next_page_id»
         let m : j < count = rw (length-roundFrom next count (next-le a r)) at l in
         rw (roundFrom-at next count (next-le a r) j m) (h ((next + j) % count) (mod-lt (next + j) (omega arith)))
 
-none-after : (k : Check) (a : Allocator) (m : MaybePageID) → allocationAfter k a (handingOut a m) .answer ≡ None → (k ≡ Fine) × (m ≡ maybe.None)
+none-after : (k : Verdict) (a : Allocator) (m : MaybePageID) → allocationAfter k a (handingOut a m) .answer ≡ None → (k ≡ Fine) × (m ≡ maybe.None)
 none-after (Refused why) a m e = let z : _≡_ {A = ℕ} 0 1 = cc in absurd (omega arith)
 none-after Fine a maybe.None e = (refl, refl)
 none-after Fine a (maybe.Some q) e = let z : _≡_ {A = ℕ} 0 1 = cc in absurd (omega arith)

@@ -13,14 +13,14 @@ use Rattle.alloc.specs.Marks.{isMarked}
 use Rattle.alloc.specs.State.{allFree, marked, freed}
 use Rattle.alloc.specs.declared.allocator.Allocator.{Allocator}
 use Rattle.alloc.specs.declared.answers.Change.{Change}
-use Rattle.alloc.specs.declared.checks.Check.{Check}
-use Rattle.alloc.specs.declared.checks.Check.the-variants.{Fine, Refused}
+use Rattle.types.specs.declared.refusal.Verdict.{Verdict}
+use Rattle.types.specs.declared.refusal.Verdict.the-variants.{Fine, Refused}
 
 -- a change that leaves another allocator is no refusal
 Honest : Allocator → Change → Type 0
 Honest a w = (outcomeTold (w .answer) .number ≡ 0 → ⊥) → w .allocator ≡ a
 
-checked : (k : Check) (a : Allocator) (w : Change) → Honest a w → Honest a (changeAfter k a w)
+checked : (k : Verdict) (a : Allocator) (w : Change) → Honest a w → Honest a (changeAfter k a w)
 unfolding Honest
 checked (Refused why) a w h n = refl
 checked Fine a w h n = h n
@@ -37,7 +37,7 @@ corrupted-honest : (a : Allocator) → Honest a (corrupted a)
 unfolding Honest
 corrupted-honest a n = refl
 
-handed-honest : (k : Check) (a : Allocator) (m : MaybePageID) → (allocatedTold (allocationAfter k a (handingOut a m) .answer) .number ≡ 0 → ⊥)
+handed-honest : (k : Verdict) (a : Allocator) (m : MaybePageID) → (allocatedTold (allocationAfter k a (handingOut a m) .answer) .number ≡ 0 → ⊥)
     → allocationAfter k a (handingOut a m) .allocator ≡ a
 handed-honest (Refused why) a m n = refl
 handed-honest Fine a None n = refl

@@ -16,8 +16,8 @@ use Rattle.alloc.specs.Checks.{stateCheck, pageCheck, wantedCheck, count
 use Rattle.alloc.specs.Marks.{marksOf, isMarked, countOf}
 use Rattle.alloc.specs.State.{Sized, nextFits, inRange}
 use Rattle.alloc.specs.declared.allocator.Allocator.{Allocator}
-use Rattle.alloc.specs.declared.checks.Check.{Check}
-use Rattle.alloc.specs.declared.checks.Check.the-variants.{Fine, Refused}
+use Rattle.types.specs.declared.refusal.Verdict.{Verdict}
+use Rattle.types.specs.declared.refusal.Verdict.the-variants.{Fine, Refused}
 use Rattle.alloc.proofs.MarksLaws.{countOf-split, countOf-le, countOf-free}
 
 -- ---- the range
@@ -83,7 +83,7 @@ used-pos a p r m = omega (arith, r .counted, countOf-free (marksOf (a .pages)) p
 
 -- ---- the checks that let a call go on
 
-passed : (t : Bool) (rest : Check) (why : Refusal) → cond t rest (Refused why) ≡ Fine → (t ≡ true) × (rest ≡ Fine)
+passed : (t : Bool) (rest : Verdict) (why : Refusal) → cond t rest (Refused why) ≡ Fine → (t ≡ true) × (rest ≡ Fine)
 passed true rest why e = (refl, e)
 passed false rest why e = let z : _≡_ {A = ℕ} 0 1 = cc in absurd (omega arith)
 

@@ -22,8 +22,8 @@ use Rattle.alloc.specs.declared.answers.Margin.the-variants as margin
 use Rattle.alloc.specs.declared.answers.Outcome.the-variants as outcome
 use Rattle.alloc.specs.declared.answers.Usage.{Usage}
 use Rattle.alloc.specs.declared.answers.Usage.the-variants as usage
-use Rattle.alloc.specs.declared.checks.Check.{Check}
-use Rattle.alloc.specs.declared.checks.Check.the-variants.{Fine, Refused}
+use Rattle.types.specs.declared.refusal.Verdict.{Verdict}
+use Rattle.types.specs.declared.refusal.Verdict.the-variants.{Fine, Refused}
 
 -- ---- calls that change the allocator
 
@@ -36,7 +36,7 @@ abbrev pub corrupted : Allocator → Change
 corrupted a = record { answer = outcome.Refused Corrupted; allocator = a }
 
 -- what the check refuses, or the work
-abbrev pub changeAfter : Check → Allocator → Change → Change
+abbrev pub changeAfter : Verdict → Allocator → Change → Change
 changeAfter (Refused why) a work = record { answer = outcome.Refused why; allocator = a }
 changeAfter Fine a work = work
 
@@ -62,7 +62,7 @@ handingOut a None = record { answer = allocated.None; allocator = a }
 handingOut a (Some page) = record { answer = allocated.Page page; allocator = movedPast (marked a (page .0)) (page .0) }
 
 -- what the check refuses, or the work
-abbrev pub allocationAfter : Check → Allocator → Allocation → Allocation
+abbrev pub allocationAfter : Verdict → Allocator → Allocation → Allocation
 allocationAfter (Refused why) a work = record { answer = allocated.Refused why; allocator = a }
 allocationAfter Fine a work = work
 
@@ -73,7 +73,7 @@ tryAllocate a = allocationAfter (stateCheck a) a (handingOut a (found a))
 -- ---- calls that read it
 
 -- what the check refuses, or the work
-abbrev pub usageAfter : Check → Usage → Usage
+abbrev pub usageAfter : Verdict → Usage → Usage
 usageAfter (Refused why) work = usage.Refused why
 usageAfter Fine work = work
 
@@ -82,7 +82,7 @@ unfoldable pub isUsed : Allocator → PageID → Usage
 isUsed a page = usageAfter (pageCheck a page) (cond (isMarked (a .pages) (page .0)) usage.Used usage.Free)
 
 -- what the check refuses, or the number
-abbrev pub countAfter : Check → ℕ → Count
+abbrev pub countAfter : Verdict → ℕ → Count
 countAfter (Refused why) n = count.Refused why
 countAfter Fine n = count.Pages n
 
@@ -97,7 +97,7 @@ unfoldable pub pageCount : Allocator → Count
 pageCount a = countAfter (stateCheck a) (a .«page_count»)
 
 -- what the check refuses, or the work
-abbrev pub marginAfter : Check → Margin → Margin
+abbrev pub marginAfter : Verdict → Margin → Margin
 marginAfter (Refused why) work = margin.Refused why
 marginAfter Fine work = work
 

@@ -10,13 +10,13 @@ use super::answers::Margin;
 use super::answers::Outcome;
 use super::answers::Usage;
 use super::checks;
-use super::checks::Check;
 use super::marks;
 use super::state;
 use types::config::MAX_PAGE_COUNT;
 use types::page_id::MaybePageID;
 use types::page_id::PageID;
 use types::refusal::Refusal;
+use types::refusal::Verdict;
 
 // Eight pages to a byte.
 pub const MARK_BYTES: usize = (MAX_PAGE_COUNT + 7) / 8;
@@ -47,7 +47,7 @@ impl Allocator {
     pub fn reset(self, count: usize, seed: u32) -> Change
         ensures answers { λ r. ⌜ r ≡ reset self count seed ⌝ }
     {
-        if let Check::Refused(no) = checks::count_check(count) {
+        if let Verdict::Refused(no) = checks::count_check(count) {
             return Change {
                 answer: Outcome::Refused(no),
                 allocator: self,
@@ -68,7 +68,7 @@ impl Allocator {
     pub fn try_allocate(self) -> Allocation
         ensures answers { λ r. ⌜ r ≡ tryAllocate self ⌝ }
     {
-        if let Check::Refused(no) = checks::state_check(self) {
+        if let Verdict::Refused(no) = checks::state_check(self) {
             return Allocation {
                 answer: Allocated::Refused(no),
                 allocator: self,
@@ -92,7 +92,7 @@ impl Allocator {
     pub fn mark_used(self, page: PageID) -> Change
         ensures answers { λ r. ⌜ r ≡ markUsed self page ⌝ }
     {
-        if let Check::Refused(no) = checks::page_check(self, page) {
+        if let Verdict::Refused(no) = checks::page_check(self, page) {
             return Change {
                 answer: Outcome::Refused(no),
                 allocator: self,
@@ -115,7 +115,7 @@ impl Allocator {
     pub fn free(self, page: PageID) -> Change
         ensures answers { λ r. ⌜ r ≡ free self page ⌝ }
     {
-        if let Check::Refused(no) = checks::page_check(self, page) {
+        if let Verdict::Refused(no) = checks::page_check(self, page) {
             return Change {
                 answer: Outcome::Refused(no),
                 allocator: self,
@@ -138,7 +138,7 @@ impl Allocator {
     pub fn is_used(self, page: PageID) -> Usage
         ensures answers { λ r. ⌜ r ≡ isUsed self page ⌝ }
     {
-        if let Check::Refused(no) = checks::page_check(self, page) {
+        if let Verdict::Refused(no) = checks::page_check(self, page) {
             return Usage::Refused(no);
         }
         let pages = self.pages;
@@ -153,8 +153,8 @@ impl Allocator {
         ensures answers { λ r. ⌜ r ≡ usedPages self ⌝ }
     {
         match checks::state_check(self) {
-            Check::Fine => Count::Pages(self.used),
-            Check::Refused(no) => Count::Refused(no),
+            Verdict::Fine => Count::Pages(self.used),
+            Verdict::Refused(no) => Count::Refused(no),
         }
     }
 
@@ -162,8 +162,8 @@ impl Allocator {
         ensures answers { λ r. ⌜ r ≡ freePages self ⌝ }
     {
         match checks::state_check(self) {
-            Check::Fine => Count::Pages(self.page_count - self.used),
-            Check::Refused(no) => Count::Refused(no),
+            Verdict::Fine => Count::Pages(self.page_count - self.used),
+            Verdict::Refused(no) => Count::Refused(no),
         }
     }
 
@@ -171,8 +171,8 @@ impl Allocator {
         ensures answers { λ r. ⌜ r ≡ pageCount self ⌝ }
     {
         match checks::state_check(self) {
-            Check::Fine => Count::Pages(self.page_count),
-            Check::Refused(no) => Count::Refused(no),
+            Verdict::Fine => Count::Pages(self.page_count),
+            Verdict::Refused(no) => Count::Refused(no),
         }
     }
 
@@ -181,8 +181,10 @@ impl Allocator {
         ensures answers { λ r. ⌜ r ≡ marginOf self wanted ⌝ }
     {
         match checks::wanted_check(self, wanted) {
-            Check::Fine => Margin::Pages((self.page_count - self.used) as isize - wanted as isize),
-            Check::Refused(no) => Margin::Refused(no),
+            Verdict::Fine => Margin::Pages(
+                (self.page_count - self.used) as isize - wanted as isize,
+            ),
+            Verdict::Refused(no) => Margin::Refused(no),
         }
     }
 }

@@ -6,52 +6,47 @@ use super::state;
 use types::config::MAX_PAGE_COUNT;
 use types::page_id::PageID;
 use types::refusal::Refusal;
+use types::refusal::Verdict;
 
-// Open so that proofs elsewhere can name what the definitions answer.
-pub enum Check {
-    Fine,
-    Refused(Refusal),
-}
-
-pub(crate) fn state_check(a: Allocator) -> Check
+pub(crate) fn state_check(a: Allocator) -> Verdict
     ensures answers { λ r. ⌜ r ≡ stateCheck a ⌝ }
 {
     if state::in_range(a) {
-        Check::Fine
+        Verdict::Fine
     } else {
-        Check::Refused(Refusal::BadState)
+        Verdict::Refused(Refusal::BadState)
     }
 }
 
-pub(crate) fn page_check(a: Allocator, page: PageID) -> Check
+pub(crate) fn page_check(a: Allocator, page: PageID) -> Verdict
     ensures answers { λ r. ⌜ r ≡ pageCheck a page ⌝ }
 {
     if !state::in_range(a) {
-        return Check::Refused(Refusal::BadState);
+        return Verdict::Refused(Refusal::BadState);
     }
     if page.index() < a.page_count {
-        Check::Fine
+        Verdict::Fine
     } else {
-        Check::Refused(Refusal::OutOfRange)
+        Verdict::Refused(Refusal::OutOfRange)
     }
 }
 
-pub(crate) fn wanted_check(a: Allocator, wanted: usize) -> Check
+pub(crate) fn wanted_check(a: Allocator, wanted: usize) -> Verdict
     ensures answers { λ r. ⌜ r ≡ wantedCheck a wanted ⌝ }
 {
     if wanted <= MAX_PAGE_COUNT {
         state_check(a)
     } else {
-        Check::Refused(Refusal::BadCount)
+        Verdict::Refused(Refusal::BadCount)
     }
 }
 
-pub(crate) fn count_check(count: usize) -> Check
+pub(crate) fn count_check(count: usize) -> Verdict
     ensures answers { λ r. ⌜ r ≡ countCheck count ⌝ }
 {
     if (1 <= count) & (count <= MAX_PAGE_COUNT) {
-        Check::Fine
+        Verdict::Fine
     } else {
-        Check::Refused(Refusal::BadCount)
+        Verdict::Refused(Refusal::BadCount)
     }
 }

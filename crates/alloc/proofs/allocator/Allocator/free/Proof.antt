@@ -10,7 +10,7 @@ use Rattle.alloc.specs.Calls.{free}
 use Rattle.alloc.specs.Checks.{pageCheck}
 use Rattle.alloc.specs.Marks.{isMarked}
 use Rattle.alloc.specs.declared.allocator.Allocator.{Allocator}
-use Rattle.alloc.specs.declared.checks.Check.the-variants.{Fine}
+use Rattle.types.specs.declared.refusal.Verdict.the-variants.{Fine}
 use Rattle.alloc.proofs.StateLaws.{fine-page, page-below, used-pos}
 use Rattle.alloc.proofs.allocator.Allocator.free.Statement.{statement}
 use Rattle.alloc.proofs.allocator.Allocator.free.Tie as tie

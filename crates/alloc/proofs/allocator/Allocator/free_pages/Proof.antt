@@ -3,7 +3,7 @@ use mathlib.Core.Path.{_≡_, sym, _∙_}
 use borrow.Author.Needs.{needs}
 use Rattle.alloc.specs.Calls.{freePages}
 use Rattle.alloc.specs.Checks.{stateCheck}
-use Rattle.alloc.specs.declared.checks.Check.the-variants.{Fine}
+use Rattle.types.specs.declared.refusal.Verdict.the-variants.{Fine}
 use Rattle.alloc.proofs.StateLaws.{fine-state, used-le}
 use Rattle.alloc.proofs.allocator.Allocator.free_pages.Statement.{statement}
 use Rattle.alloc.proofs.allocator.Allocator.free_pages.Tie as tie

@@ -5,7 +5,7 @@ use Rattle.types.specs.declared.page_id.PageID.{PageID}
 use Rattle.alloc.specs.Calls.{isUsed}
 use Rattle.alloc.specs.Checks.{pageCheck}
 use Rattle.alloc.specs.declared.allocator.Allocator.{Allocator}
-use Rattle.alloc.specs.declared.checks.Check.the-variants.{Fine}
+use Rattle.types.specs.declared.refusal.Verdict.the-variants.{Fine}
 use Rattle.alloc.proofs.StateLaws.{page-below}
 use Rattle.alloc.proofs.allocator.Allocator.is_used.Statement.{statement}
 use Rattle.alloc.proofs.allocator.Allocator.is_used.Tie as tie

@@ -7,7 +7,7 @@ use Rattle.types.specs.Build.{maxPageCount}
 use Rattle.alloc.specs.Calls.{marginOf}
 use Rattle.alloc.specs.Checks.{wantedCheck}
 use Rattle.alloc.specs.declared.allocator.Allocator.{Allocator}
-use Rattle.alloc.specs.declared.checks.Check.the-variants.{Fine}
+use Rattle.types.specs.declared.refusal.Verdict.the-variants.{Fine}
 use Rattle.alloc.proofs.MarginLaws.{small, margin-fits, margin-read}
 use Rattle.alloc.proofs.StateLaws.{InRange, fine-wanted, used-le}
 use Rattle.alloc.proofs.allocator.Allocator.margin.Statement.{statement}

@@ -10,7 +10,7 @@ use Rattle.alloc.specs.Calls.{markUsed}
 use Rattle.alloc.specs.Checks.{pageCheck}
 use Rattle.alloc.specs.Marks.{isMarked}
 use Rattle.alloc.specs.declared.allocator.Allocator.{Allocator}
-use Rattle.alloc.specs.declared.checks.Check.the-variants.{Fine}
+use Rattle.types.specs.declared.refusal.Verdict.the-variants.{Fine}
 use Rattle.alloc.proofs.StateLaws.{InRange, fine-page, page-below, used-le}
 use Rattle.alloc.proofs.allocator.Allocator.mark_used.Statement.{statement}
 use Rattle.alloc.proofs.allocator.Allocator.mark_used.Tie as tie

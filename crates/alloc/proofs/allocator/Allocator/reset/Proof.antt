@@ -4,7 +4,7 @@ use native.Mathlib.Omega.{arith}
 use borrow.Author.Needs.{needs}
 use Rattle.alloc.specs.Calls.{reset}
 use Rattle.alloc.specs.Checks.{countCheck}
-use Rattle.alloc.specs.declared.checks.Check.the-variants.{Fine}
+use Rattle.types.specs.declared.refusal.Verdict.the-variants.{Fine}
 use Rattle.alloc.proofs.StateLaws.{fine-count}
 use Rattle.alloc.proofs.allocator.Allocator.reset.Statement.{statement}
 use Rattle.alloc.proofs.allocator.Allocator.reset.Tie as tie

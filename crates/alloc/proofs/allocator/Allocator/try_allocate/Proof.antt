@@ -9,7 +9,7 @@ use Rattle.alloc.specs.Calls.{found, tryAllocate}
 use Rattle.alloc.specs.Checks.{stateCheck}
 use Rattle.alloc.specs.Marks.{isMarked}
 use Rattle.alloc.specs.declared.allocator.Allocator.{Allocator}
-use Rattle.alloc.specs.declared.checks.Check.the-variants.{Fine}
+use Rattle.types.specs.declared.refusal.Verdict.the-variants.{Fine}
 use Rattle.alloc.proofs.HandedLaws.{found-free}
 use Rattle.alloc.proofs.StateLaws.{InRange, fine-state, used-le, next-le}
 use Rattle.alloc.proofs.allocator.Allocator.try_allocate.Statement.{statement}
