@@ -19,8 +19,8 @@ use Rattle.cursor.specs.Settle.{isHidden, left, settleFrom, settled}
 use Rattle.cursor.specs.declared.answer.Moved.{Moved}
 use Rattle.cursor.specs.declared.answer.NextAnswer.{NextAnswer}
 use Rattle.cursor.specs.declared.answer.NextAnswer.the-variants.{Refused}
-use Rattle.cursor.specs.declared.check.Check.{Check}
-use Rattle.cursor.specs.declared.check.Check.the-variants as check
+use Rattle.types.specs.declared.refusal.Verdict.{Verdict}
+use Rattle.types.specs.declared.refusal.Verdict.the-variants as check
 use Rattle.cursor.specs.declared.look.Look.{Look}
 use Rattle.cursor.specs.declared.look.Look.the-variants as look
 use Rattle.cursor.specs.declared.look.Lowest.{Lowest}
@@ -187,7 +187,7 @@ module _ (bytes ends : List ℕ) (bound : Bound) (upper : List ℕ) where
         (ap (λ (x : Lowest). answerTo bytes ends x keyRoom valueRoom) (a .lowest) ∙ e)
         ∙ ap (λ (r : List RunPlace). record { cursor = record { places = r }; answer = Refused why }) (a .places)
 
-    next-by : (c : Cursor) (v : Check) → nextCheck (length bytes) ends (c .places) ≡ v
+    next-by : (c : Cursor) (v : Verdict) → nextCheck (length bytes) ends (c .places) ≡ v
         → nextBy v bytes ends (settled bytes ends bound upper (c .places)) keyRoom valueRoom c .answer ≡ Refused why
         → nextOf bytes ends bound upper (nextBy v bytes ends (settled bytes ends bound upper (c .places)) keyRoom valueRoom c .cursor) keyRoom valueRoom
         ≡ nextBy v bytes ends (settled bytes ends bound upper (c .places)) keyRoom valueRoom c

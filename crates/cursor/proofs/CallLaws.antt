@@ -25,8 +25,8 @@ use Rattle.cursor.specs.declared.answer.NewAnswer.the-variants.{Ready}
 use Rattle.cursor.specs.declared.answer.NewCursor.{NewCursor}
 use Rattle.cursor.specs.declared.answer.NextAnswer.{NextAnswer}
 use Rattle.cursor.specs.declared.answer.NextAnswer.the-variants.{Refused}
-use Rattle.cursor.specs.declared.check.Check.{Check}
-use Rattle.cursor.specs.declared.check.Check.the-variants as check
+use Rattle.types.specs.declared.refusal.Verdict.{Verdict}
+use Rattle.types.specs.declared.refusal.Verdict.the-variants as check
 use Rattle.cursor.specs.declared.pass.Pass.{Pass}
 use Rattle.cursor.specs.declared.place.Cursor.{Cursor}
 use Rattle.cursor.specs.declared.place.RunPlace.{RunPlace}
@@ -34,7 +34,7 @@ use Rattle.cursor.proofs.CheckLaws.{good-few}
 
 -- ---- what a passed check tells
 
-few-by : (size : ℕ) (ends : List ℕ) (x : Check) (b : Bool) → goodRuns size ends ≡ b → cond b x (check.Refused BadRuns) ≡ check.Fine
+few-by : (size : ℕ) (ends : List ℕ) (x : Verdict) (b : Bool) → goodRuns size ends ≡ b → cond b x (check.Refused BadRuns) ≡ check.Fine
     → length ends ≤ fileCount
 few-by size ends x true g e = good-few size ends g
 few-by size ends x false g e = let z : _≡_ {A = ℕ} 0 1 = cc in absurd (omega arith)
@@ -56,7 +56,7 @@ module _ (bytes ends : List ℕ) (bound : Bound) (upper : List ℕ) (c : Cursor)
       (m ≡ nextOf bytes ends bound upper c (length key) (length value))
       × ((x ≡ nextKey bytes ends bound upper c key value) × (y ≡ nextValue bytes ends bound upper c key value))
 
-  module _ (ch : Check) (is : ch ≡ nextCheck (length bytes) ends (c .places)) where
+  module _ (ch : Verdict) (is : ch ≡ nextCheck (length bytes) ends (c .places)) where
     pub next-refused : (why : Refusal) → ch ≡ check.Refused why → Answered (record { cursor = c; answer = Refused why }) key value
     unfolding nextOf nextBy nextKey nextValue putBy
     next-refused why q = (rw (← is, q), (rw (← is, q), rw (← is, q)))
@@ -74,12 +74,12 @@ module _ (bytes ends : List ℕ) (bound : Bound) (upper : List ℕ) (c : Cursor)
 -- ---- new
 
 module _ (bytes ends : List ℕ) (bound : Bound) (lower : List ℕ) where
-  pub new-refused : (ch : Check) → ch ≡ newCheck (length bytes) ends → (why : Refusal) → ch ≡ check.Refused why
+  pub new-refused : (ch : Verdict) → ch ≡ newCheck (length bytes) ends → (why : Refusal) → ch ≡ check.Refused why
       → refusedNew why ≡ newOf bytes ends bound lower
   unfolding newOf newBy
   new-refused ch is why q = rw (← is, q)
 
-  pub new-fine : (ch : Check) → ch ≡ newCheck (length bytes) ends → ch ≡ check.Fine
+  pub new-fine : (ch : Verdict) → ch ≡ newCheck (length bytes) ends → ch ≡ check.Fine
       → newFrom bytes ends bound lower (length ends - 0) 0 allGone ≡ newOf bytes ends bound lower
   unfolding newOf newBy
   new-fine ch is q = let z : length ends - 0 ≡ length ends = omega arith in rw (z, ← is, q)

@@ -20,7 +20,7 @@ use Rattle.cursor.specs.Checks.{goodRuns, goodPlace, goodFrom, goodPlace
 use Rattle.cursor.specs.Pass.{passOf}
 use Rattle.cursor.specs.Places.{gone, atPlace, placeOf}
 use Rattle.cursor.specs.Runs.{startOf, endOf, runOf}
-use Rattle.cursor.specs.declared.check.Check.the-variants.{Fine, Refused}
+use Rattle.types.specs.declared.refusal.Verdict.the-variants.{Fine, Refused}
 use Rattle.cursor.specs.declared.pass.Pass.{Pass}
 use Rattle.cursor.specs.declared.place.Place.{Place}
 use Rattle.cursor.specs.declared.place.Place.the-variants.{At, Gone}

@@ -21,8 +21,8 @@ use Rattle.cursor.specs.Runs.{runOf}
 use Rattle.cursor.specs.Settle.{isHidden, left, settled}
 use Rattle.cursor.specs.declared.answer.NewAnswer.the-variants as new
 use Rattle.cursor.specs.declared.answer.NewCursor.{NewCursor}
-use Rattle.cursor.specs.declared.check.Check.{Check}
-use Rattle.cursor.specs.declared.check.Check.the-variants as check
+use Rattle.types.specs.declared.refusal.Verdict.{Verdict}
+use Rattle.types.specs.declared.refusal.Verdict.the-variants as check
 use Rattle.cursor.specs.declared.look.Look.the-variants as look
 use Rattle.cursor.specs.declared.look.Lowest.{Lowest}
 use Rattle.cursor.specs.declared.look.Lowest.the-variants.{None}
@@ -54,7 +54,7 @@ module _ (bytes ends : List ℕ) (bound : Bound) (lower : List ℕ) (why : Refus
       empty-by (soughtIn (runOf bytes ends i) bound lower) i places (λ p. newFrom bytes ends bound lower count (suc i) p)
       (λ q. empty-from count (suc i) q) e
 
-  empty-check : (v : Check) → Empty (newBy v bytes ends bound lower)
+  empty-check : (v : Verdict) → Empty (newBy v bytes ends bound lower)
   unfolding newBy
   empty-check check.Fine e = empty-from (length ends) 0 allGone e
   empty-check (check.Refused x) e = refl
@@ -97,7 +97,7 @@ module _ (bytes ends : List ℕ) (bound : Bound) (upper : List ℕ) where
 
   -- whatever the checks say, no buffer is touched
   module _ (found buffer : List ℕ) (keyRoom valueRoom : ℕ) where
-    still-by : (v : Check) (p : Pass) (c : Cursor) → p .lowest ≡ None → putBy (nextBy v bytes ends p keyRoom valueRoom c .answer) found buffer ≡ buffer
+    still-by : (v : Verdict) (p : Pass) (c : Cursor) → p .lowest ≡ None → putBy (nextBy v bytes ends p keyRoom valueRoom c .answer) found buffer ≡ buffer
     unfolding nextBy movedBy answerBy putBy
     still-by check.Fine p c n = ap (λ (l : Lowest). putBy (answerTo bytes ends l keyRoom valueRoom) found buffer) n
     still-by (check.Refused why) p c n = refl

@@ -9,8 +9,8 @@ use Rattle.types.specs.Build.{fileCount}
 use Rattle.types.specs.declared.refusal.Refusal.the-variants.{BadRuns, BadState}
 use Rattle.cursor.specs.Places.{placeOf}
 use Rattle.cursor.specs.Runs.{startOf, endOf}
-use Rattle.cursor.specs.declared.check.Check.{Check}
-use Rattle.cursor.specs.declared.check.Check.the-variants.{Fine, Refused}
+use Rattle.types.specs.declared.refusal.Verdict.{Verdict}
+use Rattle.types.specs.declared.refusal.Verdict.the-variants.{Fine, Refused}
 use Rattle.cursor.specs.declared.place.Place.{Place}
 use Rattle.cursor.specs.declared.place.Place.the-variants.{At, Gone}
 use Rattle.cursor.specs.declared.place.RunPlace.{RunPlace}
@@ -38,9 +38,9 @@ unfoldable pub goodPlaces : List ℕ → List RunPlace → Bool
 goodPlaces ends places = goodFrom ends places fileCount 0
 
 -- what is refused before a cursor is made
-unfoldable pub newCheck : ℕ → List ℕ → Check
+unfoldable pub newCheck : ℕ → List ℕ → Verdict
 newCheck size ends = cond (goodRuns size ends) Fine (Refused BadRuns)
 
 -- and before an entry is looked for
-unfoldable pub nextCheck : ℕ → List ℕ → List RunPlace → Check
+unfoldable pub nextCheck : ℕ → List ℕ → List RunPlace → Verdict
 nextCheck size ends places = cond (goodRuns size ends) (cond (goodPlaces ends places) Fine (Refused BadState)) (Refused BadRuns)

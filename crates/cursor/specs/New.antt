@@ -13,8 +13,8 @@ use Rattle.cursor.specs.Places.{atPlace, allGone}
 use Rattle.cursor.specs.Runs.{runOf}
 use Rattle.cursor.specs.declared.answer.NewAnswer.the-variants.{Ready, Refused}
 use Rattle.cursor.specs.declared.answer.NewCursor.{NewCursor}
-use Rattle.cursor.specs.declared.check.Check.{Check}
-use Rattle.cursor.specs.declared.check.Check.the-variants as check
+use Rattle.types.specs.declared.refusal.Verdict.{Verdict}
+use Rattle.types.specs.declared.refusal.Verdict.the-variants as check
 use Rattle.cursor.specs.declared.place.RunPlace.{RunPlace}
 
 abbrev pub refusedNew : Refusal → NewCursor
@@ -32,7 +32,7 @@ newFrom bytes ends bound lower zero i places = record { cursor = record { places
 newFrom bytes ends bound lower (suc count) i places =
     placed (soughtIn (runOf bytes ends i) bound lower) i places (λ p. newFrom bytes ends bound lower count (suc i) p)
 
-unfoldable pub newBy : Check → List ℕ → List ℕ → Bound → List ℕ → NewCursor
+unfoldable pub newBy : Verdict → List ℕ → List ℕ → Bound → List ℕ → NewCursor
 newBy check.Fine bytes ends bound lower = newFrom bytes ends bound lower (length ends) 0 allGone
 newBy (check.Refused why) bytes ends bound lower = refusedNew why
 

@@ -13,8 +13,8 @@ use Rattle.cursor.specs.Settle.{settled}
 use Rattle.cursor.specs.declared.answer.Moved.{Moved}
 use Rattle.cursor.specs.declared.answer.NextAnswer.{NextAnswer}
 use Rattle.cursor.specs.declared.answer.NextAnswer.the-variants.{End, Entry, Refused}
-use Rattle.cursor.specs.declared.check.Check.{Check}
-use Rattle.cursor.specs.declared.check.Check.the-variants as check
+use Rattle.types.specs.declared.refusal.Verdict.{Verdict}
+use Rattle.types.specs.declared.refusal.Verdict.the-variants as check
 use Rattle.cursor.specs.declared.look.Lowest.{Lowest}
 use Rattle.cursor.specs.declared.look.Lowest.the-variants as low
 use Rattle.cursor.specs.declared.pass.Pass.{Pass}
@@ -59,7 +59,7 @@ putBy (Refused why) bytes buffer = buffer
 unfoldable pub movedBy : NextAnswer → Pass → Moved
 movedBy answer p = record { cursor = record { places = placesBy answer p }; answer = answer }
 
-unfoldable pub nextBy : Check → List ℕ → List ℕ → Pass → ℕ → ℕ → Cursor → Moved
+unfoldable pub nextBy : Verdict → List ℕ → List ℕ → Pass → ℕ → ℕ → Cursor → Moved
 nextBy check.Fine bytes ends p keyRoom valueRoom c = movedBy (answerTo bytes ends (p .lowest) keyRoom valueRoom) p
 nextBy (check.Refused why) bytes ends p keyRoom valueRoom c = record { cursor = c; answer = Refused why }
 

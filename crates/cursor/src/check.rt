@@ -6,11 +6,7 @@ use crate::place::RunPlace;
 use crate::runs::run_len;
 use types::config::FILE_COUNT;
 use types::refusal::Refusal;
-
-pub enum Check {
-    Fine,
-    Refused(Refusal),
-}
+use types::refusal::Verdict;
 
 // No more ends than files, none falling, none past a buffer of so many bytes.
 fn good_runs(size: usize, ends: &[usize]) -> bool
@@ -58,25 +54,25 @@ fn good_places(places: [RunPlace; FILE_COUNT], ends: &[usize]) -> bool
     true
 }
 
-pub(crate) fn new_check(size: usize, ends: &[usize]) -> Check
+pub(crate) fn new_check(size: usize, ends: &[usize]) -> Verdict
     ensures answers { λ r. ⌜ r ≡ newCheck size (now (ends .entry)) ⌝ }
 {
     if good_runs(size, ends) {
-        Check::Fine
+        Verdict::Fine
     } else {
-        Check::Refused(Refusal::BadRuns)
+        Verdict::Refused(Refusal::BadRuns)
     }
 }
 
-pub(crate) fn next_check(size: usize, ends: &[usize], places: [RunPlace; FILE_COUNT]) -> Check
+pub(crate) fn next_check(size: usize, ends: &[usize], places: [RunPlace; FILE_COUNT]) -> Verdict
     ensures answers { λ r. ⌜ r ≡ nextCheck size (now (ends .entry)) places ⌝ }
 {
     if !good_runs(size, ends) {
-        return Check::Refused(Refusal::BadRuns);
+        return Verdict::Refused(Refusal::BadRuns);
     }
     if good_places(places, ends) {
-        Check::Fine
+        Verdict::Fine
     } else {
-        Check::Refused(Refusal::BadState)
+        Verdict::Refused(Refusal::BadState)
     }
 }

@@ -7,7 +7,6 @@ use crate::answer::Moved;
 use crate::answer::NewAnswer;
 use crate::answer::NewCursor;
 use crate::answer::NextAnswer;
-use crate::check::Check;
 use crate::check::new_check;
 use crate::check::next_check;
 use crate::deliver::deliver;
@@ -23,6 +22,7 @@ use run::search::Sought;
 use run::search::search;
 use types::config::FILE_COUNT;
 use types::refusal::Refusal;
+use types::refusal::Verdict;
 
 // No cursor: every run is gone.
 fn refused(why: Refusal) -> NewCursor
@@ -55,7 +55,7 @@ impl Cursor {
         ensures answers { λ r. ⌜ r ≡ newOf (now (runs .entry)) (now (ends .entry)) bound (now (lower .entry)) ⌝ }
     {
         let check = new_check(runs.len(), ends);
-        if let Check::Refused(why) = check {
+        if let Verdict::Refused(why) = check {
             return refused(why);
         }
         let mut places = [GONE; FILE_COUNT];
@@ -97,7 +97,7 @@ impl Cursor {
     {
         let places = self.places;
         let check = next_check(runs.len(), ends, places);
-        if let Check::Refused(why) = check {
+        if let Verdict::Refused(why) = check {
             return Moved {
                 cursor: self,
                 answer: NextAnswer::Refused(why),
