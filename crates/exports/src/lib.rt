@@ -1,0 +1,2 @@
+// The library for callers in C or Rust: whole jobs, on numbers and lent bytes.
+pub mod sums;
