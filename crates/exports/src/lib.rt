@@ -1,2 +1,4 @@
 // The library for callers in C or Rust: whole jobs, on numbers and lent bytes.
+pub mod allocating;
 pub mod sums;
+mod telling;

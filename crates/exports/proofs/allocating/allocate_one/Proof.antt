@@ -1,0 +1,21 @@
+-- `exports::allocating::allocate_one` meets its contract. Assumes nothing.
+use Rattle.exports.proofs.AllocationLaws.{allocate-step}
+use borrow.Author.Needs.{needs}
+use Rattle.exports.proofs.allocating.allocate_one.Statement.{statement}
+use Rattle.exports.proofs.allocating.allocate_one.Tie as tie
+
+try-allocate-requires : tie.Need-try-allocate-requires
+try-allocate-requires c κs = search needs
+
+code-of-requires : tie.Need-code-of-requires
+code-of-requires c κs = search needs
+
+mixed-requires : tie.Need-mixed-requires
+mixed-requires c κs = search needs
+
+returns : tie.Need-returns
+returns c = allocate-step (c .before .before .before .before .before .args .t) (c .before .before .before .try-allocate .result) _ _ (c .before .before .before .try-allocate .ensures) (c .before .code-of .ensures) (c .mixed .ensures)
+
+pub allocate-one-spec : {M : Type 1} → statement M
+allocate-one-spec =
+    tie.close (tie.spec try-allocate-requires code-of-requires mixed-requires returns)

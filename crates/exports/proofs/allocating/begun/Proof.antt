@@ -1,0 +1,23 @@
+-- `exports::allocating::begun` meets its contract. Assumes nothing.
+use Rattle.exports.proofs.AllocationLaws.{begun-by}
+use borrow.Author.Needs.{needs}
+use Rattle.exports.proofs.allocating.begun.Statement.{statement}
+use Rattle.exports.proofs.allocating.begun.Tie as tie
+
+new-requires : tie.Need-new-requires
+new-requires c κs = search needs
+
+reset-requires : tie.Need-reset-requires
+reset-requires c κs = search needs
+
+number-requires : tie.Need-number-requires
+number-requires c κs = search needs
+
+cast-t8 : tie.Need-cast-t8
+cast-t8 c = search needs
+
+returns : tie.Need-returns
+returns c = begun-by _ _ (c .before .before .before .new .result) (c .before .before .reset .result) _ (c .before .before .before .new .ensures) (c .before .before .reset .ensures) (c .number .ensures)
+
+pub begun-spec : {M : Type 1} → statement M
+begun-spec = tie.close (tie.spec new-requires reset-requires number-requires cast-t8 returns)

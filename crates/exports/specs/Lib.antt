@@ -1,0 +1,2 @@
+pub mod Allocations
+pub mod Telling
