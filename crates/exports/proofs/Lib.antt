@@ -1,1 +1,2 @@
 mod AllocationLaws
+mod ReadingLaws

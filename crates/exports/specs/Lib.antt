@@ -1,2 +1,3 @@
 pub mod Allocations
+pub mod Readings
 pub mod Telling

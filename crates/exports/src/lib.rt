@@ -1,4 +1,5 @@
 // The library for callers in C or Rust: whole jobs, on numbers and lent bytes.
 pub mod allocating;
+pub mod reading;
 pub mod sums;
 mod telling;

@@ -8,5 +8,6 @@ pub mod MoveLaws
 pub mod OpenLaws
 pub mod RangeLaws
 pub mod ReadLaws
+pub mod RoomLaws
 pub mod SkipLaws
 pub mod StateLaws
