@@ -1,2 +1,3 @@
 mod AllocationLaws
 mod ReadingLaws
+mod WritingLaws

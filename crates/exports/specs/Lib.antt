@@ -1,3 +1,4 @@
 pub mod Allocations
 pub mod Readings
 pub mod Telling
+pub mod Writings

@@ -3,3 +3,4 @@ pub mod allocating;
 pub mod reading;
 pub mod sums;
 mod telling;
+pub mod writing;

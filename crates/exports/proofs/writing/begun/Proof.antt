@@ -1,0 +1,59 @@
+-- `exports::writing::begun` meets its contract. Assumes nothing.
+use denote.Ref.{now}
+use Rattle.exports.proofs.WritingLaws.{begun-refused, begun-open}
+use borrow.Author.Needs.{needs}
+use Rattle.exports.proofs.writing.begun.Statement.{statement}
+use Rattle.exports.proofs.writing.begun.Tie as tie
+
+new-requires : tie.Need-new-requires
+new-requires c κs = search needs
+
+open-requires : tie.Need-open-requires
+open-requires c κs = search needs
+
+enum-known-answer : tie.Need-enum-known-answer
+enum-known-answer c = search needs
+
+number-requires : tie.Need-number-requires
+number-requires c κs = search needs
+
+same-length : tie.Need-same-length
+same-length c = search needs
+
+returns : tie.Need-returns
+returns c =
+    let a = c .before .before .before .before .before .before .before .before .before .before .args in
+    begun-refused (now (a .flash)) (a .magic) (a .page) (now (a .header)) (a .left) (c .before .before .before .before .before .before .before .new .result) (c .before .before .before .before .before .«open» .result) (c .before .before .before .before .before .before .before .new .ensures) (c .before .before .before .before .before .«open» .ensures) _ _ (c .before .before .answer .given .1) (c .number .ensures)
+
+enum-told : tie.Need-enum-told
+enum-told c = search needs
+
+write-header-requires : tie.Need-write-header-requires
+write-header-requires c κs = search needs
+
+after-header-requires : tie.Need-after-header-requires
+after-header-requires c κs = search needs
+
+same-length-2 : tie.Need-same-length-2
+same-length-2 c = search needs
+
+returns-2 : tie.Need-returns-2
+returns-2 c =
+    let a = c .before .before .before .before .before .before .before .before .before .before .before .before .before .args in
+    begun-open (now (a .flash)) (a .magic) (a .page) (now (a .header)) (a .left) (c .before .before .before .before .before .before .before .before .before .before .new .result) (c .before .before .before .before .before .before .before .before .«open» .result) (c .before .before .before .before .before .before .before .before .before .before .new .ensures) (c .before .before .before .before .before .before .before .before .«open» .ensures) (c .before .before .before .write-header .result) _ _ (c .before .before .before .before .before .enum-told .given .1) (c .before .before .before .write-header .ensures .0) (c .before .before .before .write-header .ensures .1) (c .after-header .ensures)
+
+pub begun-spec : {M : Type 1} → statement M
+begun-spec =
+    tie.close
+    (tie.spec
+    new-requires
+    open-requires
+    enum-known-answer
+    number-requires
+    same-length
+    returns
+    enum-told
+    write-header-requires
+    after-header-requires
+    same-length-2
+    returns-2)

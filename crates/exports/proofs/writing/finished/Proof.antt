@@ -1,0 +1,39 @@
+-- `exports::writing::finished` meets its contract. Assumes nothing.
+use denote.Ref.{now}
+use Rattle.exports.proofs.WritingLaws.{finished-refused, finished-done}
+use borrow.Author.Needs.{needs}
+use Rattle.exports.proofs.writing.finished.Statement.{statement}
+use Rattle.exports.proofs.writing.finished.Tie as tie
+
+told-requires : tie.Need-told-requires
+told-requires c κs = search needs
+
+returns : tie.Need-returns
+returns c = finished-refused (c .before .before .before .before .args .w) (now (c .before .before .before .before .args .flash)) _ (c .before .if1 .taken) (c .told .ensures)
+
+commit-requires : tie.Need-commit-requires
+commit-requires c κs = search needs
+
+outcome-number-requires : tie.Need-outcome-number-requires
+outcome-number-requires c κs = search needs
+
+told-requires-2 : tie.Need-told-requires-2
+told-requires-2 c κs = search needs
+
+same-length : tie.Need-same-length
+same-length c = search needs
+
+returns-2 : tie.Need-returns-2
+returns-2 c = finished-done (c .before .before .before .before .before .before .before .before .before .before .args .w) (now (c .before .before .before .before .before .before .before .before .before .before .args .flash)) (c .before .before .before .before .commit .result) _ _ _ (c .before .before .before .before .before .before .before .if1 .left) (c .before .before .before .before .commit .ensures .0) (c .before .before .before .before .commit .ensures .1) (c .before .outcome-number .ensures) (c .told2 .ensures)
+
+pub finished-spec : {M : Type 1} → statement M
+finished-spec =
+    tie.close
+    (tie.spec
+    told-requires
+    returns
+    commit-requires
+    outcome-number-requires
+    told-requires-2
+    same-length
+    returns-2)
