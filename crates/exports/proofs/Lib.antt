@@ -1,3 +1,4 @@
 mod AllocationLaws
+mod MergingLaws
 mod ReadingLaws
 mod WritingLaws

@@ -1,5 +1,6 @@
 // The library for callers in C or Rust: whole jobs, on numbers and lent bytes.
 pub mod allocating;
+pub mod merging;
 pub mod reading;
 pub mod sums;
 mod telling;
