@@ -1,6 +1,9 @@
+pub mod BraidLaws
 pub mod DividesLaws
 pub mod RegisterLaws
 pub mod RemainderLaws
 pub mod StepLaws
+pub mod TableLaws
 pub mod Vectors
+pub mod WordLaws
 pub mod XorLaws

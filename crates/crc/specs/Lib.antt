@@ -1,3 +1,4 @@
 pub mod Division
 pub mod Published
 pub mod Register
+pub mod Tables

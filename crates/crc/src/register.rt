@@ -1,5 +1,5 @@
 // A sum in the making: the register before, between and after the bytes.
-use crate::bitwise;
+use crate::braid;
 ghost use mathlib.Core.Path.{_≡_};
 ghost use Rattle.crc.specs.Register.{preset, updated, finished};
 
@@ -22,7 +22,7 @@ impl Crc32 {
     pub fn update(self, bytes: &[u8]) -> Crc32
         ensures answers { λ r. ⌜ r .0 ≡ updated (self .0) (now (bytes .entry)) ⌝ }
     {
-        Crc32(bitwise::update(self.0, bytes))
+        Crc32(braid::update(self.0, bytes))
     }
 
     pub fn finish(self) -> u32
