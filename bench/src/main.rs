@@ -105,7 +105,7 @@ fn measure(job: &str, times: u32, rounds: u32, mut sides: Vec<Side>) {
 fn compare_entries(bytes: &[u8], ends: &[usize], runs: &Runs<theirs::Files>) {
     let mut numbers = inputs::Numbers(1);
     for i in 0..400 {
-        let most = if i < 200 { i } else { numbers.below(12_000) as usize };
+        let most = if i < 200 { i } else { numbers.below(10_500) as usize };
         let (mut key, mut value) = ([0; 64], [0; 1024]);
         let (mut key2, mut value2) = ([0; 64], [0; 1024]);
         let a = ours::merge(bytes, ends, most, &mut key, &mut value);
