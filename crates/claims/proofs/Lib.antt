@@ -14,6 +14,7 @@ pub mod HistoryLaws
 pub mod OneAlloc
 pub mod OneCrc
 pub mod OneCursor
+pub mod OneExports
 pub mod OneFlash
 pub mod OnePage
 pub mod OneReader
