@@ -47,7 +47,7 @@ going-fine : (n : ℕ) (w : PageWriter) → Going n w → writerVerdict n w ≡ 
 unfolding writerVerdict
 going-fine n w g = rw (g .shape, g .range, g .there)
 
-written-page : (w : PageWriter) (bytes : List ℕ) → written w bytes .page ≡ w .page
+pub written-page : (w : PageWriter) (bytes : List ℕ) → written w bytes .page ≡ w .page
 written-page w bytes = by (eqb (takes (length bytes) w) 0) (isFull (grown w (takenOf w bytes)))
   where
     by : (s t : Bool) → cond s w (cond t (nextChunk (grown w (takenOf w bytes))) (grown w (takenOf w bytes))) .page ≡ w .page

@@ -1,39 +1,133 @@
--- After a reopening every store of an addition, up to the cut, lies on bytes that read as erased just before it. Assumes nothing.
-use mathlib.Core.Path.{_≡_}
+-- After a reopening, until a call is refused, every store of write and commit lies on bytes that read as erased just before it.
+-- Assumes nothing.
+use mathlib.Core.Path.{_≡_, refl, sym, ap, subst, _∙_}
 use mathlib.Core.Bool.{Bool, true, false, cond}
 use mathlib.Core.List.{List, [], _∷_}
-use Prim.Native.Nat.{ℕ}
-use lib.ListN.{take}
+use mathlib.Core.Logic.{⊎-elim}
+use Prim.Native.Nat.{ℕ, _-_, _≤_, _<_}
+use native.Mathlib.Omega.{arith}
+use lib.Dec.{eqb}
+use lib.ListN.{length, take}
+use lib.Seq.{take-all}
+use borrow.Author.Tests.{le-leb, lt-leb}
 use Rattle.types.specs.declared.page_id.PageID.{PageID}
-use Rattle.flash.specs.Geometry.{pageOf}
-use Rattle.flash.specs.Operations.{applied}
-use Rattle.writer.specs.Openings.{appended}
-use Rattle.writer.specs.States.{inRange}
-use Rattle.writer.specs.Writes.{writeOps, written}
+use Rattle.types.specs.declared.refusal.Refusal.the-variants.{Cut}
+use Rattle.types.specs.declared.refusal.Verdict.{Verdict}
+use Rattle.types.specs.declared.refusal.Verdict.the-variants as verdict
+use Rattle.types.proofs.TestLaws.{le-or-lt}
+use Rattle.flash.specs.Geometry.{pageStart, pageOf}
+use Rattle.flash.specs.Operations.{Op, applied}
+use Rattle.flash.proofs.PageLaws.{page-applied}
+use Rattle.writer.specs.Calls.{madeOf}
+use Rattle.writer.specs.Commits.{nextChunk}
+use Rattle.writer.specs.Openings.{openedAfter, appended, appendedAt}
+use Rattle.writer.specs.Outcomes.{ended, endedFlash}
+use Rattle.writer.specs.States.{inRange, firstChunk}
+use Rattle.writer.specs.Verdicts.{openVerdict, writerVerdict}
 use Rattle.writer.specs.declared.answers.Opening.the-variants.{Open}
+use Rattle.writer.specs.declared.answers.Outcome.{Outcome}
+use Rattle.writer.specs.declared.answers.Outcome.the-variants.{Done, Refused}
 use Rattle.writer.specs.declared.page_writer.PageWriter.{PageWriter}
 use Rattle.writer.proofs.CheckLaws.{sound}
 use Rattle.writer.proofs.CleanLaws.{Clean, append-clean, write-clean, commit-clean}
-use Rattle.writer.proofs.RangeLaws.{write-range, append-range}
-use Rattle.writer.proofs.StoreLaws.{Lands, lands-append, lands-take}
-use Rattle.claims.specs.Additions.{fills, additionOps}
+use Rattle.writer.proofs.RangeLaws.{write-range, commit-range, append-range}
+use Rattle.writer.proofs.StoreLaws.{Lands, lands-take}
+use Rattle.page.specs.Walks.{walkEnd}
+use Rattle.page.specs.declared.walk.Ending.{Ending}
+use Rattle.page.specs.declared.walk.Ending.the-variants.{EndAt, Corrupted}
+use Rattle.claims.specs.Sequences.{AddCall, writes, commits, owed, goesOn, callMakes, callEnds, callFlash}
+use Rattle.claims.proofs.CallLaws.{written-page}
 
-addition-lands : (e : ℕ) (pieces : List (List ℕ)) (w : PageWriter) (p : List ℕ) → inRange w ≡ true → Clean e w p → Lands e (additionOps e w pieces) p
-unfolding additionOps
-addition-lands e [] w p r c = commit-clean e w p (sound w r .even) c .0
-addition-lands e (bytes ∷ pieces) w p r c =
-    let one = write-clean e w bytes p (sound w r .even) c in
-    let more = addition-lands e pieces (written w bytes) (applied 0 (writeOps e w bytes) p) (write-range w bytes r) (one .1) in
-    lands-append e (writeOps e w bytes) (cond (fills w bytes) [] (additionOps e (written w bytes) pieces)) p (one .0) (by (fills w bytes) more)
+-- after a call that was not refused
+abbrev pub Unless : Outcome → Type 0 → Type 0
+Unless Done further = further
+Unless (Refused why) further = Unit
+
+-- each store that these calls make, when it is made, lies on erased bytes of the writer's page; up to the first that is refused
+unfoldable pub AllLand : ℕ → List AddCall → PageWriter → ℕ → List ℕ → Type 0
+AllLand e [] w left xs = Unit
+AllLand e (call ∷ calls) w left xs =
+    Lands e (callMakes e call w left xs) (pageOf (w .page .0) xs)
+    × Unless (callEnds e call w left xs .answer) (AllLand e calls (callEnds e call w left xs .writer) (callEnds e call w left xs .left) (callFlash e call w left xs))
+
+-- ---- one call
+
+call-page : (call : AddCall) (w : PageWriter) → goesOn call w .page ≡ w .page
+call-page (writes bytes) w = written-page w bytes
+call-page commits w = by (eqb (w .pending) 0)
   where
-    by : (t : Bool) → Lands e (additionOps e (written w bytes) pieces) (applied 0 (writeOps e w bytes) p)
-        → Lands e (cond t [] (additionOps e (written w bytes) pieces)) (applied 0 (writeOps e w bytes) p)
-    by true l = tt
-    by false l = l
+    by : (t : Bool) → cond t w (nextChunk w) .page ≡ w .page
+    by true = refl
+    by false = refl
 
--- WRITES ON ERASED: for every cut, once the page is open
-pub writes-on-erased : (e : ℕ) (xs : List ℕ) (page : PageID) (h : ℕ) (w : PageWriter) (k : ℕ) (pieces : List (List ℕ)) → appended e xs page h w k .answer ≡ Open
-    → Lands e (take k (additionOps e (appended e xs page h w k .writer) pieces)) (pageOf (page .0) xs)
-writes-on-erased e xs page h w k pieces a =
-    lands-take e k (additionOps e (appended e xs page h w k .writer) pieces) (pageOf (page .0) xs)
-    (addition-lands e pieces (appended e xs page h w k .writer) (pageOf (page .0) xs) (append-range e xs page h w k a) (append-clean e xs page h w k a))
+call-range : (call : AddCall) (w : PageWriter) → inRange w ≡ true → inRange (goesOn call w) ≡ true
+call-range (writes bytes) w r = write-range w bytes r
+call-range commits w r = commit-range w r
+
+call-clean : (e : ℕ) (call : AddCall) (w : PageWriter) (p : List ℕ) → inRange w ≡ true → Clean e w p → Lands e (owed e call w) p × Clean e (goesOn call w) (applied 0 (owed e call w) p)
+call-clean e (writes bytes) w p r c = write-clean e w bytes p (sound w r .even) c
+call-clean e commits w p r c = commit-clean e w p (sound w r .even) c
+
+-- ---- all of them
+
+-- a call, and those after it by what is known of its writer and its page
+module _ (e : ℕ) (call : AddCall) (calls : List AddCall) (w : PageWriter) (left : ℕ) (xs : List ℕ) (r : inRange w ≡ true) (c : Clean e w (pageOf (w .page .0) xs))
+    (further : (v : PageWriter) (n : ℕ) (ys : List ℕ) → inRange v ≡ true → Clean e v (pageOf (v .page .0) ys) → AllLand e calls v n ys) where
+  abbrev ops : List Op
+  ops = owed e call w
+
+  abbrev next : PageWriter
+  next = goesOn call w
+
+  abbrev page : List ℕ
+  page = pageOf (w .page .0) xs
+
+  abbrev ys : List ℕ
+  ys = applied (pageStart (w .page .0)) (take left ops) xs
+
+  abbrev Further : Bool → Type 0
+  Further t = Unless (cond t Done (Refused Cut)) (AllLand e calls (cond t next w) (left - length ops) ys)
+
+  next-page : length ops ≤ left → pageOf (next .page .0) ys ≡ applied 0 ops page
+  next-page all =
+      ap (λ (p : PageID). pageOf (p .0) ys) (call-page call w)
+      ∙ page-applied (pageStart (w .page .0)) (take left ops) xs
+      ∙ ap (λ (l : List Op). applied 0 l page) (take-all left ops all)
+
+  call-lands : (v : Verdict)
+      → Lands e (madeOf v ops left) page
+      × Unless (ended v ops next w left .answer) (AllLand e calls (ended v ops next w left .writer) (ended v ops next w left .left) (endedFlash v ops w left xs))
+  call-lands (verdict.Refused why) = (tt, tt)
+  call-lands verdict.Fine = (
+    lands-take e left ops page (call-clean e call w page r c .0),
+    ⊎-elim
+        (λ (all : length ops ≤ left).
+        subst Further (sym (le-leb (length ops) left all))
+        (further next (left - length ops) ys (call-range call w r) (subst (λ (p : List ℕ). Clean e next p) (sym (next-page all)) (call-clean e call w page r c .1))))
+        (λ (short : left < length ops). subst Further (sym (lt-leb (length ops) left short)) tt)
+        (le-or-lt (length ops) left),
+  )
+
+all-land : (e : ℕ) (calls : List AddCall) (w : PageWriter) (left : ℕ) (xs : List ℕ) → inRange w ≡ true → Clean e w (pageOf (w .page .0) xs) → AllLand e calls w left xs
+unfolding AllLand
+all-land e [] w left xs r c = tt
+all-land e (call ∷ calls) w left xs r c =
+    call-lands e call calls w left xs r c (λ v n ys. all-land e calls v n ys) (writerVerdict (length xs) w)
+
+-- the writer that open_append hands back stands on the page that it was asked for
+append-page : (e : ℕ) (xs : List ℕ) (page : PageID) (h : ℕ) (w : PageWriter) (k : ℕ) → appended e xs page h w k .answer ≡ Open → appended e xs page h w k .writer .page ≡ page
+unfolding appended
+append-page e xs page h w k a = by (openVerdict (length xs) (page .0) h) (walkEnd (pageOf (page .0) xs) (firstChunk h)) a
+  where
+    by : (v : Verdict) (end : Ending) → openedAfter v w k (appendedAt e (pageOf (page .0) xs) page h w k end) .answer ≡ Open
+        → openedAfter v w k (appendedAt e (pageOf (page .0) xs) page h w k end) .writer .page ≡ page
+    by (verdict.Refused why) end a = let z : _≡_ {A = ℕ} 0 1 = cc in absurd (omega arith)
+    by verdict.Fine Corrupted a = let z : _≡_ {A = ℕ} 0 1 = cc in absurd (omega arith)
+    by verdict.Fine (EndAt o) a = refl
+
+-- WRITES ON ERASED: after a reopening, whatever is written and committed, with any number of stores allowed
+pub writes-on-erased : (e : ℕ) (xs : List ℕ) (page : PageID) (h : ℕ) (w : PageWriter) (k : ℕ) (calls : List AddCall) → appended e xs page h w k .answer ≡ Open
+    → AllLand e calls (appended e xs page h w k .writer) (appended e xs page h w k .left) xs
+writes-on-erased e xs page h w k calls a =
+    all-land e calls (appended e xs page h w k .writer) (appended e xs page h w k .left) xs (append-range e xs page h w k a)
+    (subst (λ (p : PageID). Clean e (appended e xs page h w k .writer) (pageOf (p .0) xs)) (sym (append-page e xs page h w k a)) (append-clean e xs page h w k a))

@@ -2,5 +2,6 @@ pub mod Additions
 pub mod Again
 pub mod Pages
 pub mod Histories
+pub mod Sequences
 pub mod Starred
 pub mod Outcomes
