@@ -4,11 +4,12 @@ use mathlib.Core.Path.{_≡_, ap, _∙_}
 use mathlib.Core.Bool.{true}
 use mathlib.Core.List.{List, [], _∷_, _++_}
 use Prim.Native.Nat.{ℕ, _+_, _≤_, _<_}
+use native.Mathlib.Omega.{arith}
 use lib.Dec.{eqb}
 use lib.ListN.{length}
 use borrow.Author.Tests.{eq-eqb}
 use Rattle.types.specs.Bytes.{word}
-use Rattle.types.specs.Build.{pageHeaderSize}
+use Rattle.types.specs.Build.{eraseValue, pageHeaderSize}
 use Rattle.types.specs.declared.page_id.PageID.{PageID}
 use Rattle.types.specs.declared.refusal.Verdict.the-variants.{Fine}
 use Rattle.crc.specs.Published.{published}
@@ -22,12 +23,12 @@ use Rattle.reader.specs.Finds.{Found, payloadOf, NotEmpty, found}
 use Rattle.reader.proofs.FoundLaws.{found-whole}
 use Rattle.reader.proofs.GoodLaws.{Right as SumRight}
 use Rattle.writer.specs.declared.page_writer.PageWriter.{PageWriter}
-use Rattle.claims.specs.Additions.{added, newPayload, storeCount}
+use Rattle.claims.specs.Additions.{added, newPayload, storeCount, addedPayload}
 use Rattle.claims.specs.Histories.{Episode, AllPieces, history, keptPayloads}
 use Rattle.claims.specs.Pages.{AllBytes, AllRight, Good, payloads}
 use Rattle.claims.proofs.CutLaws.{Shape, added-length}
 use Rattle.claims.proofs.CutPage.{page-before, page-after}
-use Rattle.claims.proofs.HistoryLaws.{history-holds, history-length}
+use Rattle.claims.proofs.HistoryLaws.{addition-holds, history-holds, history-length}
 
 -- ---- a good page, read
 
@@ -68,24 +69,43 @@ module _ (e : ℕ) (unmarked : word (blank e 2) ≡ chunkMagic → ⊥) (xs : Li
   there-after : hasPage (length (added e xs page h w k pieces)) (page .0) ≡ true
   there-after = ap (λ (n : ℕ). hasPage n (page .0)) after-length ∙ there
 
-  -- CUT SAFE, before the last store: a new reader finds the old payloads, and nothing else
+  -- before the last store: a new reader finds the old payloads, and nothing else
   pub cut-safe-before : k < storeCount e xs page h w k pieces → found (added e xs page h w k pieces) magic page h ≡ finds (payloads (pageOf (page .0) xs) h)
   cut-safe-before cut =
       let r = page-before e unmarked xs page magic h o w k pieces fine there good bytes some cut in
       good-found (added e xs page h w k pieces) magic page h o fine-after there-after (r .0) ∙ ap finds (r .1)
 
-  -- CUT SAFE, once it is made: those and the new one
+  -- once it is made: those and the new one
   pub cut-safe-after : storeCount e xs page h w k pieces ≤ k
       → found (added e xs page h w k pieces) magic page h ≡ finds (payloads (pageOf (page .0) xs) h ++ (newPayload e xs page h w k pieces ∷ []))
   cut-safe-after all =
       let r = page-after e unmarked xs page magic h o w k pieces fine there good bytes some all in
       good-found (added e xs page h w k pieces) magic page h (nextOffset o (length (newPayload e xs page h w k pieces))) fine-after there-after (r .0) ∙ ap finds (r .1)
 
+-- ---- for the erase value of the build that we ship
+
+-- its bytes are no chunk's mark
+unmarked : word (blank eraseValue 2) ≡ chunkMagic → ⊥
+unfolding word blank
+unmarked e = let z : _≡_ {A = ℕ} 0xFFFF 0x59C5 = e in omega arith
+
+-- CUT SAFE: on a good page of a flash in shape, open_append, writes of bytes and a commit, with k stores allowed in all. A new reader
+-- then finds exactly the old payloads; and behind them the new one, where bytes were taken and the last store was made
+pub cut-safe : (xs : List ℕ) (page : PageID) (magic h o : ℕ) (w : PageWriter) (k : ℕ) (pieces : List (List ℕ))
+    → flashFine (length xs) ≡ true → hasPage (length xs) (page .0) ≡ true → Good magic (page .0) h o (pageOf (page .0) xs) → AllBytes pieces
+    → found (added eraseValue xs page h w k pieces) magic page h ≡ finds (payloads (pageOf (page .0) xs) h ++ addedPayload eraseValue xs page h w k pieces)
+cut-safe xs page magic h o w k pieces fine there good bytes =
+    let ys = added eraseValue xs page h w k pieces in
+    let r = addition-holds eraseValue unmarked page magic h w xs k pieces o fine there good bytes in
+    let l : length ys ≡ length xs = added-length eraseValue xs page h w k o (record { flash = fine; header = good .length-fine; there = there }) (good .ends) pieces in
+    good-found ys magic page h (r .o) (ap flashFine l ∙ fine) (ap (λ (n : ℕ). hasPage n (page .0)) l ∙ there) (r .good) ∙ ap finds (r .are)
+
 -- CUT HISTORY: after any episodes a new reader finds the old payloads and those of the chunks whose last store was made, in order
-pub cut-history : (e : ℕ) (unmarked : word (blank e 2) ≡ chunkMagic → ⊥) (page : PageID) (magic h : ℕ) (w : PageWriter) (ts : List Episode) (xs : List ℕ) (o : ℕ)
+pub cut-history : (page : PageID) (magic h : ℕ) (w : PageWriter) (ts : List Episode) (xs : List ℕ) (o : ℕ)
     → flashFine (length xs) ≡ true → hasPage (length xs) (page .0) ≡ true → Good magic (page .0) h o (pageOf (page .0) xs) → AllPieces ts
-    → found (history e xs page h w ts) magic page h ≡ finds (payloads (pageOf (page .0) xs) h ++ keptPayloads e xs page h w ts)
-cut-history e unmarked page magic h w ts xs o fine there good bytes =
-    let r = history-holds e unmarked page magic h w ts xs o fine there good bytes in
-    let l : length (history e xs page h w ts) ≡ length xs = history-length e unmarked page magic h w ts xs o fine there good bytes in
-    good-found (history e xs page h w ts) magic page h (r .o) (ap flashFine l ∙ fine) (ap (λ (n : ℕ). hasPage n (page .0)) l ∙ there) (r .good) ∙ ap finds (r .are)
+    → found (history eraseValue xs page h w ts) magic page h ≡ finds (payloads (pageOf (page .0) xs) h ++ keptPayloads eraseValue xs page h w ts)
+cut-history page magic h w ts xs o fine there good bytes =
+    let ys = history eraseValue xs page h w ts in
+    let r = history-holds eraseValue unmarked page magic h w ts xs o fine there good bytes in
+    let l : length ys ≡ length xs = history-length eraseValue unmarked page magic h w ts xs o fine there good bytes in
+    good-found ys magic page h (r .o) (ap flashFine l ∙ fine) (ap (λ (n : ℕ). hasPage n (page .0)) l ∙ there) (r .good) ∙ ap finds (r .are)

@@ -20,8 +20,8 @@ use Rattle.writer.specs.Openings.{appended, resumeAt}
 use Rattle.writer.specs.States.{fresh}
 use Rattle.writer.specs.declared.answers.Opened.{Opened}
 use Rattle.writer.specs.declared.page_writer.PageWriter.{PageWriter}
-use Rattle.claims.specs.Additions.{addition, additionOps, added, newPayload, storeCount}
-use Rattle.claims.specs.Histories.{Episode, AllPieces, history, addedWhole, keptPayloads}
+use Rattle.claims.specs.Additions.{addition, additionOps, added, newPayload, storeCount, addedWhole, addedPayload}
+use Rattle.claims.specs.Histories.{Episode, AllPieces, history, keptPayloads}
 use Rattle.claims.specs.Pages.{AllBytes, Good, payloads}
 use Rattle.claims.proofs.AdditionLaws.{addition-empty}
 use Rattle.claims.proofs.CutLaws.{Shape, append-as, added-page, added-length}
@@ -38,13 +38,10 @@ nothing [] z = refl
 nothing (x ∷ l) z = absurd (omega arith)
 
 module _ (e : ℕ) (unmarked : word (blank e 2) ≡ chunkMagic → ⊥) (page : PageID) (magic h : ℕ) (w : PageWriter) where
-  -- one episode
-  episode : (xs : List ℕ) (t : Episode) (o : ℕ) → flashFine (length xs) ≡ true → hasPage (length xs) (page .0) ≡ true → Good magic (page .0) h o (pageOf (page .0) xs) → AllBytes (t .pieces)
-      → Holds magic (page .0) h (pageOf (page .0) xs) (pageOf (page .0) (added e xs page h w (t .stores) (t .pieces)))
-      (cond (addedWhole e xs page h w t) (newPayload e xs page h w (t .stores) (t .pieces) ∷ []) [])
-  episode xs t o fine there good bytes =
-      let k = t .stores in
-      let ps = t .pieces in
+  -- one addition
+  pub addition-holds : (xs : List ℕ) (k : ℕ) (ps : List (List ℕ)) (o : ℕ) → flashFine (length xs) ≡ true → hasPage (length xs) (page .0) ≡ true → Good magic (page .0) h o (pageOf (page .0) xs) → AllBytes ps
+      → Holds magic (page .0) h (pageOf (page .0) xs) (pageOf (page .0) (added e xs page h w k ps)) (addedPayload e xs page h w k ps)
+  addition-holds xs k ps o fine there good bytes =
       let new = newPayload e xs page h w k ps in
       let before = pageOf (page .0) xs in
       let after = pageOf (page .0) (added e xs page h w k ps) in
@@ -56,7 +53,7 @@ module _ (e : ℕ) (unmarked : word (blank e 2) ≡ chunkMagic → ⊥) (page : 
       let ops : additionOps e (fresh false page h (resumeAt e before o)) ps ≡ [] = addition-empty e (fresh false page h (resumeAt e before o)) ps refl none in
       let same : after ≡ before =
       added-page e xs page h w k o shape (good .ends) ps ∙ ap (λ (l : List Op). applied 0 (take k l) before) ops ∙ ap (λ (l : List Op). applied 0 l before) (take-nil k) in
-      let f : addedWhole e xs page h w t ≡ false = ap (λ (b : Bool). not b && leb (storeCount e xs page h w k ps) k) (eq-eqb (length new) 0 z) in
+      let f : addedWhole e xs page h w k ps ≡ false = ap (λ (b : Bool). not b && leb (storeCount e xs page h w k ps) k) (eq-eqb (length new) 0 z) in
       record {
         o = o;
         good = subst (λ (p : List ℕ). Good magic (page .0) h o p) (sym same) good;
@@ -64,7 +61,7 @@ module _ (e : ℕ) (unmarked : word (blank e 2) ≡ chunkMagic → ⊥) (page : 
       })
       (λ (n : length new ≡ 0 → ⊥).
       let some : 0 < length new = omega arith in
-      let b : addedWhole e xs page h w t ≡ leb (storeCount e xs page h w k ps) k = ap (λ (b : Bool). not b && leb (storeCount e xs page h w k ps) k) (ne-eqb (length new) 0 n) in
+      let b : addedWhole e xs page h w k ps ≡ leb (storeCount e xs page h w k ps) k = ap (λ (b : Bool). not b && leb (storeCount e xs page h w k ps) k) (ne-eqb (length new) 0 n) in
       ⊎-elim
       (λ (all : storeCount e xs page h w k ps ≤ k).
       let r = page-after e unmarked xs page magic h o w k ps fine there good bytes some all in
@@ -92,7 +89,7 @@ module _ (e : ℕ) (unmarked : word (blank e 2) ≡ chunkMagic → ⊥) (page : 
       let k = t .stores in
       let ps = t .pieces in
       let ys = added e xs page h w k ps in
-      let one = episode xs t o fine there good (bytes .0) in
+      let one = addition-holds xs (t .stores) (t .pieces) o fine there good (bytes .0) in
       let l : length ys ≡ length xs = added-length e xs page h w k o (record { flash = fine; header = good .length-fine; there = there }) (good .ends) ps in
       let rest = history-holds ts ys (one .o) (ap flashFine l ∙ fine) (ap (λ (n : ℕ). hasPage n (page .0)) l ∙ there) (one .good) (bytes .1) in
       record {
@@ -111,6 +108,6 @@ module _ (e : ℕ) (unmarked : word (blank e 2) ≡ chunkMagic → ⊥) (page : 
   history-length [] xs o fine there good bytes = refl
   history-length (t ∷ ts) xs o fine there good bytes =
       let ys = added e xs page h w (t .stores) (t .pieces) in
-      let one = episode xs t o fine there good (bytes .0) in
+      let one = addition-holds xs (t .stores) (t .pieces) o fine there good (bytes .0) in
       let l : length ys ≡ length xs = added-length e xs page h w (t .stores) o (record { flash = fine; header = good .length-fine; there = there }) (good .ends) (t .pieces) in
       history-length ts ys (one .o) (ap flashFine l ∙ fine) (ap (λ (n : ℕ). hasPage n (page .0)) l ∙ there) (one .good) (bytes .1) ∙ l

@@ -25,3 +25,4 @@ pub mod OneWriter
 pub mod OutcomeLaws
 pub mod PageCutLaws
 pub mod StarredNumbers
+pub mod WorkedLaws

@@ -1,8 +1,9 @@
 -- Adding one chunk to a page, call by call: open_append, writes of pieces until there are no more or one fills the chunk, then a
 -- commit. Each call gets what the one before it left, by the definitions that the calls promise. Assumes nothing.
-use mathlib.Core.Bool.{Bool, cond}
+use mathlib.Core.Bool.{Bool, cond, not, _&&_}
 use mathlib.Core.List.{List, [], _∷_, _++_}
 use Prim.Native.Nat.{ℕ}
+use lib.Dec.{eqb, leb}
 use lib.ListN.{length}
 use Rattle.types.specs.declared.page_id.PageID.{PageID}
 use Rattle.flash.specs.Operations.{Op}
@@ -76,3 +77,11 @@ newPayload e xs page h w k pieces = addition (appended e xs page h w k .writer) 
 
 abbrev pub storeCount : ℕ → List ℕ → PageID → ℕ → PageWriter → ℕ → List (List ℕ) → ℕ
 storeCount e xs page h w k pieces = length (additionOps e (appended e xs page h w k .writer) pieces)
+
+-- whether its chunk was added whole: it has a byte, and its last store was made
+abbrev pub addedWhole : ℕ → List ℕ → PageID → ℕ → PageWriter → ℕ → List (List ℕ) → Bool
+addedWhole e xs page h w k pieces = not (eqb (length (newPayload e xs page h w k pieces)) 0) && leb (storeCount e xs page h w k pieces) k
+
+-- the payload that it adds: the new one, or none where the chunk was not added whole
+abbrev pub addedPayload : ℕ → List ℕ → PageID → ℕ → PageWriter → ℕ → List (List ℕ) → List (List ℕ)
+addedPayload e xs page h w k pieces = cond (addedWhole e xs page h w k pieces) (newPayload e xs page h w k pieces ∷ []) []

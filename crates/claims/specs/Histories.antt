@@ -1,13 +1,10 @@
 -- A history of a page: episodes in which it is reopened, one chunk is added and the power fails after some number of stores, or
 -- does not. Assumes nothing.
-use mathlib.Core.Bool.{Bool, cond, not, _&&_}
 use mathlib.Core.List.{List, [], _∷_, _++_}
 use Prim.Native.Nat.{ℕ}
-use lib.Dec.{eqb, leb}
-use lib.ListN.{length}
 use Rattle.types.specs.declared.page_id.PageID.{PageID}
 use Rattle.writer.specs.declared.page_writer.PageWriter.{PageWriter}
-use Rattle.claims.specs.Additions.{added, newPayload, storeCount}
+use Rattle.claims.specs.Additions.{added, addedPayload}
 use Rattle.claims.specs.Pages.{AllBytes}
 
 -- an episode: the pieces that are written, and how many stores are made before the cut
@@ -25,14 +22,8 @@ unfoldable pub history : ℕ → List ℕ → PageID → ℕ → PageWriter → 
 history e xs page h w [] = xs
 history e xs page h w (t ∷ ts) = history e (added e xs page h w (t .stores) (t .pieces)) page h w ts
 
--- whether an episode's chunk was added whole: it has a byte, and its last store was made
-abbrev pub addedWhole : ℕ → List ℕ → PageID → ℕ → PageWriter → Episode → Bool
-addedWhole e xs page h w t =
-    not (eqb (length (newPayload e xs page h w (t .stores) (t .pieces))) 0) && leb (storeCount e xs page h w (t .stores) (t .pieces)) (t .stores)
-
--- the payloads of the chunks that were, in the order in which they were added
+-- the payloads of the chunks that were added whole, in the order in which they were added
 unfoldable pub keptPayloads : ℕ → List ℕ → PageID → ℕ → PageWriter → List Episode → List (List ℕ)
 keptPayloads e xs page h w [] = []
 keptPayloads e xs page h w (t ∷ ts) =
-    cond (addedWhole e xs page h w t) (newPayload e xs page h w (t .stores) (t .pieces) ∷ []) []
-    ++ keptPayloads e (added e xs page h w (t .stores) (t .pieces)) page h w ts
+    addedPayload e xs page h w (t .stores) (t .pieces) ++ keptPayloads e (added e xs page h w (t .stores) (t .pieces)) page h w ts

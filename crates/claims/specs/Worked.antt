@@ -1,0 +1,22 @@
+-- A flash of one page with a header and one chunk, whose payload is the byte 5: as small as a good page gets. Assumes nothing.
+use mathlib.Core.List.{List, [], _∷_, _++_}
+use Prim.Native.Nat.{ℕ, _-_}
+use Rattle.types.specs.Build.{eraseValue, pageSize}
+use Rattle.types.specs.declared.page_id.PageID.{PageID}
+use Rattle.crc.specs.Published.{published}
+use Rattle.flash.specs.Patch.{blank}
+use Rattle.page.specs.Chunks.{chunkHeader}
+use Rattle.page.specs.Headers.{pageHeader}
+
+abbrev pub workedMagic : ℕ
+workedMagic = 7
+
+abbrev pub workedPage : PageID
+workedPage = record { 0 = 0 }
+
+-- a chunk of one byte, with its padding
+unfoldable pub chunkOfOne : ℕ → List ℕ
+chunkOfOne byte = chunkHeader 1 (published (byte ∷ [])) ++ (byte ∷ 0 ∷ 0 ∷ 0 ∷ [])
+
+unfoldable pub workedFlash : List ℕ
+workedFlash = pageHeader workedMagic 0 [] ++ (chunkOfOne 5 ++ blank eraseValue (pageSize - 24))
