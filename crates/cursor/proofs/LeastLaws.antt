@@ -27,6 +27,7 @@ use Rattle.cursor.specs.declared.pass.Pass.{Pass}
 use Rattle.cursor.specs.declared.place.Place.{Place}
 use Rattle.cursor.specs.declared.place.Place.the-variants.{At, Gone}
 use Rattle.cursor.specs.declared.place.RunPlace.{RunPlace}
+use Rattle.cursor.proofs.EndedLaws.{Ended, ended-so, shows-ended, sees-more}
 use Rattle.cursor.proofs.PassRule.{standing, Sees, After, Kept, pass-rule}
 use Rattle.cursor.proofs.PlaceLaws.{at-gone, set-other, set-gone, set-there}
 
@@ -65,8 +66,10 @@ module _ (bytes ends : List ℕ) (bound : Bound) (upper : List ℕ) where
   Stands n p (Refused why) = ⊥
 
   pub record Least (start : List RunPlace) (n : ℕ) (p : Pass) : Type 0 where
-    -- a run is where it was, or gone
-    pub found : (i : ℕ) → (placeOf (p .places) i ≡ placeOf start i) ⊎ (placeOf (p .places) i ≡ Gone)
+    -- a run is where it was, or it had ended and is gone
+    pub found : (i : ℕ) → (placeOf (p .places) i ≡ placeOf start i) ⊎ (Ended bytes ends bound upper start i × (placeOf (p .places) i ≡ Gone))
+    -- every run seen that had ended is gone
+    pub ends-gone : (i : ℕ) → i < n → Ended bytes ends bound upper start i → placeOf (p .places) i ≡ Gone
     -- a run that is gone, or not seen yet, does not step on
     pub ahead : (i : ℕ) → n ≤ i → placeOf (p .stepped) i ≡ placeOf (p .places) i
     pub still : (i : ℕ) → placeOf (p .places) i ≡ Gone → placeOf (p .stepped) i ≡ Gone
@@ -121,10 +124,15 @@ module _ (bytes ends : List ℕ) (bound : Bound) (upper : List ℕ) where
     gone-row : (row : List RunPlace) (k : ℕ) (x : Place) → placeOf row k ≡ x → (k ≡ i → ⊥) → placeOf (set row i gone) k ≡ x
     gone-row row k x e n = set-other row i k gone n ∙ e
 
-    least-gone : Least start (suc i) (withGone i p)
-    least-gone = record {
-      found = λ k. ⊎-elim (λ e. inr (rw e (set-gone (p .places) i)))
-          (λ n. ⊎-elim (λ f. inl (gone-row (p .places) k _ f n)) (λ f. inr (gone-row (p .places) k Gone f n)) (h .found k)) (eq-or-ne k i);
+    -- run i had ended before the pass, since no look before has moved it
+    ended-before : Ended bytes ends bound upper (p .places) i → Ended bytes ends bound upper start i
+    ended-before g = ⊎-elim (λ f. ended-so bytes ends bound upper (p .places) start i f g) (λ f. f .0) (h .found i)
+
+    least-gone : Ended bytes ends bound upper (p .places) i → Least start (suc i) (withGone i p)
+    least-gone ended = record {
+      found = λ k. ⊎-elim (λ e. inr (rw e (ended-before ended, set-gone (p .places) i)))
+          (λ n. ⊎-elim (λ f. inl (gone-row (p .places) k _ f n)) (λ f. inr (f .0, gone-row (p .places) k Gone (f .1) n)) (h .found k)) (eq-or-ne k i);
+      ends-gone = λ k b g. ⊎-elim (λ e. rw e (set-gone (p .places) i)) (λ n. gone-row (p .places) k Gone (h .ends-gone k (omega arith) g) n) (eq-or-ne k i);
       ahead = λ k b. let n : k ≡ i → ⊥ = λ e. omega arith in
           set-other (p .stepped) i k gone n ∙ h .ahead k (omega arith) ∙ sym (set-other (p .places) i k gone n);
       still = λ k g. ⊎-elim (λ e. rw e (set-gone (p .stepped) i))
@@ -200,6 +208,13 @@ module _ (bytes ends : List ℕ) (bound : Bound) (upper : List ℕ) where
       }
       above-stands (Refused why) st q = st
 
+      -- a run that had ended is another one, or is gone
+      seen-gone : (k : ℕ) → k < suc i → Ended bytes ends bound upper start k → placeOf (p .places) k ≡ Gone
+      seen-gone k b g =
+          ⊎-elim (λ e. ⊎-elim (λ f. absurd (sees-more bytes ends bound upper i p at r o s (ended-so bytes ends bound upper start (p .places) i (sym f) (rw e at g))))
+          (λ f. rw e (f .1)) (h .found i))
+          (λ n. h .ends-gone k (omega arith) g) (eq-or-ne k i)
+
       -- a run that is gone is another one
       other-gone : (k : ℕ) → placeOf (p .places) k ≡ Gone → k ≡ i → ⊥
       other-gone k g e = at-gone (placeOf (p .places) i) at (s .place) (rw e at g)
@@ -207,6 +222,7 @@ module _ (bytes ends : List ℕ) (bound : Bound) (upper : List ℕ) where
       least-above : standing bytes ends bound upper i p r ≡ Greater → Least start (suc i) p
       least-above q = record {
         found = h .found;
+        ends-gone = seen-gone;
         ahead = λ k b. h .ahead k (omega arith);
         still = h .still;
         stands = above-stands (p .lowest) (h .stands) q;
@@ -215,6 +231,7 @@ module _ (bytes ends : List ℕ) (bound : Bound) (upper : List ℕ) where
       least-level : standing bytes ends bound upper i p r ≡ Equal → Least start (suc i) (withHolder i r p)
       least-level q = record {
         found = h .found;
+        ends-gone = seen-gone;
         ahead = λ k b. set-other (p .stepped) i k (atPlace (r .next)) (λ e. omega arith) ∙ h .ahead k (omega arith);
         still = λ k g. set-other (p .stepped) i k (atPlace (r .next)) (other-gone k g) ∙ h .still k g;
         stands = decides (p .stepped) (h .ahead i (le-refl i) ∙ s .place) (level-others (p .lowest) (h .stands) q);
@@ -223,6 +240,7 @@ module _ (bytes ends : List ℕ) (bound : Bound) (upper : List ℕ) where
       least-below : standing bytes ends bound upper i p r ≡ Less → Least start (suc i) (withLowest i r p)
       least-below q = record {
         found = h .found;
+        ends-gone = seen-gone;
         ahead = λ k b. set-other (p .places) i k (atPlace (r .next)) (λ e. omega arith);
         still = λ k g. set-other (p .places) i k (atPlace (r .next)) (other-gone k g) ∙ g;
         stands = decides (p .places) (s .place) (below-others (p .lowest) (h .stands) q);
@@ -232,7 +250,7 @@ module _ (bytes ends : List ℕ) (bound : Bound) (upper : List ℕ) where
 
   kept : (start : List RunPlace) → Kept bytes ends bound upper (Least start)
   kept start = record {
-    gone = λ i p few h q. least-gone start i p h;
+    gone = λ i p few h q. least-gone start i p h (shows-ended bytes ends bound upper i p q);
     above = λ i p at r few h s. least-above start i p h at r Greater s (s .order);
     level = λ i p at r few h s. least-level start i p h at r Equal s (s .order);
     below = λ i p at r few h s. least-below start i p h at r Less s (s .order);
@@ -242,4 +260,4 @@ module _ (bytes ends : List ℕ) (bound : Bound) (upper : List ℕ) where
   pub least : (start : List RunPlace) → After bytes ends bound upper (Least start) (passOf bytes ends bound upper start)
   least start =
       pass-rule bytes ends bound upper (Least start) (kept start) start
-      (record { found = λ i. inl refl; ahead = λ i b. refl; still = λ i g. g; stands = λ i b. absurd (omega arith) })
+      (record { found = λ i. inl refl; ends-gone = λ i b g. absurd (omega arith); ahead = λ i b. refl; still = λ i g. g; stands = λ i b. absurd (omega arith) })

@@ -3,6 +3,8 @@ pub mod BoundLaws
 pub mod CallLaws
 pub mod CheckLaws
 pub mod ComingLaws
+pub mod EndClaims
+pub mod EndedLaws
 pub mod FallLaws
 pub mod GoodLaws
 pub mod HandLaws
