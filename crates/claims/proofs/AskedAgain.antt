@@ -10,8 +10,8 @@ use Rattle.types.specs.declared.refusal.Refusal.{Refusal}
 use Rattle.flash.specs.Geometry.{pageOf}
 use Rattle.page.specs.Headers.{headerOf}
 use Rattle.run.specs.declared.bound.Bound.{Bound}
-use Rattle.reader.specs.Answers.{outcomeTold, countTold, endTestTold}
-use Rattle.reader.specs.Calls.{filled, openPage, openBytes, read, skip, isAtEof, rehydrateFrom}
+use Rattle.reader.specs.Answers.{outcomeTold, countTold, endTestTold, dehydrationTold, pageTold}
+use Rattle.reader.specs.Calls.{filled, readHeader, readHeaderBytes, openPage, openBytes, read, skip, isAtEof, dehydrate, rehydrateFrom, pageId}
 use Rattle.reader.specs.declared.answers.Count.{Count}
 use Rattle.reader.specs.declared.answers.Count.the-variants as count
 use Rattle.reader.specs.declared.answers.EndTest.{EndTest}
@@ -33,7 +33,7 @@ use Rattle.cursor.specs.declared.answer.NextAnswer.the-variants as next
 use Rattle.cursor.specs.declared.place.Cursor.{Cursor}
 use Rattle.cursor.proofs.AgainLaws.{next-again, key-kept, value-kept}
 use Rattle.cursor.proofs.NoCursorLaws.{new-refused-empty, none-handed}
-use Rattle.claims.specs.Again.{Left, IsRefused, AskedAgain, ReaderCall, opens, reads, skips, asksForItsEnd, rehydrates, readerLeft, Buffers, Rooms, roomsOf, nextLeft}
+use Rattle.claims.specs.Again.{Left, IsRefused, AskedAgain, ReaderCall, readsHeader, opens, reads, skips, asksForItsEnd, dehydrates, rehydrates, asksItsPage, sameRoom, readerLeft, Buffers, Rooms, roomsOf, nextLeft}
 
 -- ---- a number other than 0 is a refusal's
 
@@ -79,9 +79,19 @@ left-is m n s t a b p q r = rw (p, q, r)
 -- ---- the reader
 
 module _ (flash : List ℕ) (r : PageReader) where
-  -- a refused call, with any buffer of the same room
+  -- a refused call, with any buffer of the same room where it counts
   abbrev Kept : ReaderCall → List ℕ → Type 0
-  Kept call buffer = (n : ℕ) × ((other : List ℕ) → length other ≡ length buffer → readerLeft flash call r other ≡ record { number = n; state = r; lent = other })
+  Kept call buffer = (n : ℕ) × ((other : List ℕ) → sameRoom call other ≡ sameRoom call buffer → readerLeft flash call r other ≡ record { number = n; state = r; lent = other })
+
+  header-kept : (magic : ℕ) (page : PageID) (buffer : List ℕ) → IsRefused (readerLeft flash (readsHeader magic page) r buffer) → Kept (readsHeader magic page) buffer
+  unfolding readerLeft readHeaderBytes
+  header-kept magic page buffer e =
+      let w = outcome-refused (readHeader flash magic page (length buffer)) e in (
+        numberOf (w .0),
+        λ other q.
+            let a : readHeader flash magic page (length other) ≡ outcome.Refused (w .0) = rw q (w .1) in
+            left-is _ _ _ _ _ _ (ap (λ (x : Outcome). outcomeTold x .number) a) refl (ap (λ (x : Outcome). filled x (headerOf (pageOf (page .0) flash) (length other)) other) a),
+      )
 
   open-kept : (magic : ℕ) (page : PageID) (buffer : List ℕ) → IsRefused (readerLeft flash (opens magic page) r buffer) → Kept (opens magic page) buffer
   unfolding readerLeft openBytes
@@ -122,17 +132,28 @@ module _ (flash : List ℕ) (r : PageReader) where
       let w = outcome-refused (rehydrateFrom r flash d .answer) e in
       (numberOf (w .0), λ other q. left-is _ _ _ _ _ _ (ap (λ (x : Outcome). outcomeTold x .number) (w .1)) (rehydrate-kept r flash (w .0) d (w .1)) refl)
 
+  dehydrate-left : (buffer : List ℕ) → Kept dehydrates buffer
+  unfolding readerLeft
+  dehydrate-left buffer = (dehydrationTold (dehydrate r) .number, λ other q. refl)
+
+  page-left : (buffer : List ℕ) → Kept asksItsPage buffer
+  unfolding readerLeft
+  page-left buffer = (pageTold (pageId r) .number, λ other q. refl)
+
   kept : (call : ReaderCall) (buffer : List ℕ) → IsRefused (readerLeft flash call r buffer) → Kept call buffer
+  kept (readsHeader magic page) buffer e = header-kept magic page buffer e
   kept (opens magic page) buffer e = open-kept magic page buffer e
   kept reads buffer e = read-kept buffer e
   kept (skips n) buffer e = skip-left n buffer e
   kept asksForItsEnd buffer e = eof-left buffer e
+  kept dehydrates buffer e = dehydrate-left buffer
   kept (rehydrates d) buffer e = rehydrate-left d buffer e
+  kept asksItsPage buffer e = page-left buffer
 
 -- ASKED AGAIN, of a reader
 pub asked-again : (flash : List ℕ) (call : ReaderCall) (r : PageReader) (buffer : List ℕ) → IsRefused (readerLeft flash call r buffer)
-    → AskedAgain length (readerLeft flash call) r buffer
-asked-again flash call r buffer e = let k = kept flash r call buffer e in settles length (readerLeft flash call) r buffer (k .0) r (k .1 buffer refl) (k .1)
+    → AskedAgain (sameRoom call) (readerLeft flash call) r buffer
+asked-again flash call r buffer e = let k = kept flash r call buffer e in settles (sameRoom call) (readerLeft flash call) r buffer (k .0) r (k .1 buffer refl) (k .1)
 
 -- ---- the cursor
 

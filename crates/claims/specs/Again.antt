@@ -6,8 +6,8 @@ use Prim.Native.Nat.{ℕ}
 use lib.ListN.{length}
 use Rattle.types.specs.declared.page_id.PageID.{PageID}
 use Rattle.run.specs.declared.bound.Bound.{Bound}
-use Rattle.reader.specs.Answers.{outcomeTold, countTold, endTestTold}
-use Rattle.reader.specs.Calls.{openPage, openBytes, read, readBytes, skip, isAtEof, rehydrateFrom}
+use Rattle.reader.specs.Answers.{outcomeTold, countTold, endTestTold, dehydrationTold, pageTold}
+use Rattle.reader.specs.Calls.{readHeader, readHeaderBytes, openPage, openBytes, read, readBytes, skip, isAtEof, dehydrate, rehydrateFrom, pageId}
 use Rattle.reader.specs.declared.dehydrated.DehydratedPageReader.{DehydratedPageReader}
 use Rattle.reader.specs.declared.page_reader.PageReader.{PageReader}
 use Rattle.cursor.specs.Answers.{nextNumber}
@@ -32,16 +32,36 @@ pub record AskedAgain {State Lent Room : Type 0} (room : Lent → Room) (call : 
   pub again : (other : Lent) → room other ≡ room lent
       → call (call s lent .state) other ≡ record { number = call s lent .number; state = call s lent .state; lent = other }
 
--- ---- the calls of a reader, with the flash; a call that is lent no buffer leaves it
+-- ---- the calls of a reader, with the flash; a call that is lent no buffer leaves it, and read_header, dehydrate and page_id leave
+-- the reader
 
 pub data ReaderCall : Type 0 where
+  readsHeader : ℕ → PageID → ReaderCall
   opens : ℕ → PageID → ReaderCall
   reads : ReaderCall
   skips : ℕ → ReaderCall
   asksForItsEnd : ReaderCall
+  dehydrates : ReaderCall
   rehydrates : DehydratedPageReader → ReaderCall
+  asksItsPage : ReaderCall
+
+-- the room that has to be the same: a header's, whose length is asked for; to a read any buffer may be lent the next time
+abbrev pub sameRoom : ReaderCall → List ℕ → ℕ
+sameRoom (readsHeader magic page) header = length header
+sameRoom (opens magic page) header = length header
+sameRoom reads buffer = 0
+sameRoom (skips count) buffer = 0
+sameRoom asksForItsEnd buffer = 0
+sameRoom dehydrates buffer = 0
+sameRoom (rehydrates d) buffer = 0
+sameRoom asksItsPage buffer = 0
 
 unfoldable pub readerLeft : List ℕ → ReaderCall → PageReader → List ℕ → Left PageReader (List ℕ)
+readerLeft flash (readsHeader magic page) r header = record {
+  number = outcomeTold (readHeader flash magic page (length header)) .number;
+  state = r;
+  lent = readHeaderBytes flash magic page header;
+}
 readerLeft flash (opens magic page) r header = record {
   number = outcomeTold (openPage r flash magic page (length header) .answer) .number;
   state = openPage r flash magic page (length header) .reader;
@@ -56,8 +76,10 @@ readerLeft flash (skips count) r buffer =
     record { number = countTold (skip r flash count .answer) .number; state = skip r flash count .reader; lent = buffer }
 readerLeft flash asksForItsEnd r buffer =
     record { number = endTestTold (isAtEof r flash .answer) .number; state = isAtEof r flash .reader; lent = buffer }
+readerLeft flash dehydrates r buffer = record { number = dehydrationTold (dehydrate r) .number; state = r; lent = buffer }
 readerLeft flash (rehydrates d) r buffer =
     record { number = outcomeTold (rehydrateFrom r flash d .answer) .number; state = rehydrateFrom r flash d .reader; lent = buffer }
+readerLeft flash asksItsPage r buffer = record { number = pageTold (pageId r) .number; state = r; lent = buffer }
 
 -- ---- next, with the runs, their ends and the upper bound
 
