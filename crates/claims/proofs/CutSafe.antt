@@ -101,11 +101,11 @@ cut-safe xs page magic h o w k pieces fine there good bytes =
     good-found ys magic page h (r .o) (ap flashFine l ∙ fine) (ap (λ (n : ℕ). hasPage n (page .0)) l ∙ there) (r .good) ∙ ap finds (r .are)
 
 -- CUT HISTORY: after any episodes a new reader finds the old payloads and those of the chunks whose last store was made, in order
-pub cut-history : (page : PageID) (magic h : ℕ) (w : PageWriter) (ts : List Episode) (xs : List ℕ) (o : ℕ)
+pub cut-history : (page : PageID) (magic h : ℕ) (ts : List Episode) (xs : List ℕ) (o : ℕ)
     → flashFine (length xs) ≡ true → hasPage (length xs) (page .0) ≡ true → Good magic (page .0) h o (pageOf (page .0) xs) → AllPieces ts
-    → found (history eraseValue xs page h w ts) magic page h ≡ finds (payloads (pageOf (page .0) xs) h ++ keptPayloads eraseValue xs page h w ts)
-cut-history page magic h w ts xs o fine there good bytes =
-    let ys = history eraseValue xs page h w ts in
-    let r = history-holds eraseValue unmarked page magic h w ts xs o fine there good bytes in
-    let l : length ys ≡ length xs = history-length eraseValue unmarked page magic h w ts xs o fine there good bytes in
+    → found (history eraseValue xs page h ts) magic page h ≡ finds (payloads (pageOf (page .0) xs) h ++ keptPayloads eraseValue xs page h ts)
+cut-history page magic h ts xs o fine there good bytes =
+    let ys = history eraseValue xs page h ts in
+    let r = history-holds eraseValue unmarked page magic h ts xs o fine there good bytes in
+    let l : length ys ≡ length xs = history-length eraseValue unmarked page magic h ts xs o fine there good bytes in
     good-found ys magic page h (r .o) (ap flashFine l ∙ fine) (ap (λ (n : ℕ). hasPage n (page .0)) l ∙ there) (r .good) ∙ ap finds (r .are)

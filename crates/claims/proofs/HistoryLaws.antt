@@ -80,16 +80,18 @@ module _ (e : ℕ) (unmarked : word (blank e 2) ≡ chunkMagic → ⊥) (page : 
       (le-or-lt (storeCount e xs page h w k ps) k))
       (eq-or-ne (length new) 0)
 
+module _ (e : ℕ) (unmarked : word (blank e 2) ≡ chunkMagic → ⊥) (page : PageID) (magic h : ℕ) where
   -- THE HISTORY: no episode loses an older chunk, and those added whole are there in their order
   pub history-holds : (ts : List Episode) (xs : List ℕ) (o : ℕ) → flashFine (length xs) ≡ true → hasPage (length xs) (page .0) ≡ true → Good magic (page .0) h o (pageOf (page .0) xs) → AllPieces ts
-      → Holds magic (page .0) h (pageOf (page .0) xs) (pageOf (page .0) (history e xs page h w ts)) (keptPayloads e xs page h w ts)
+      → Holds magic (page .0) h (pageOf (page .0) xs) (pageOf (page .0) (history e xs page h ts)) (keptPayloads e xs page h ts)
   unfolding history keptPayloads
   history-holds [] xs o fine there good bytes = record { o = o; good = good; are = sym (append-nil (payloads (pageOf (page .0) xs) h)) }
   history-holds (t ∷ ts) xs o fine there good bytes =
       let k = t .stores in
+      let w = t .writer in
       let ps = t .pieces in
       let ys = added e xs page h w k ps in
-      let one = addition-holds xs (t .stores) (t .pieces) o fine there good (bytes .0) in
+      let one = addition-holds e unmarked page magic h (t .writer) xs (t .stores) (t .pieces) o fine there good (bytes .0) in
       let l : length ys ≡ length xs = added-length e xs page h w k o (record { flash = fine; header = good .length-fine; there = there }) (good .ends) ps in
       let rest = history-holds ts ys (one .o) (ap flashFine l ∙ fine) (ap (λ (n : ℕ). hasPage n (page .0)) l ∙ there) (one .good) (bytes .1) in
       record {
@@ -97,17 +99,18 @@ module _ (e : ℕ) (unmarked : word (blank e 2) ≡ chunkMagic → ⊥) (page : 
         good = rest .good;
         are =
             rest .are
-            ∙ ap (λ (x : List (List ℕ)). x ++ keptPayloads e ys page h w ts) (one .are)
-            ∙ append-assoc (payloads (pageOf (page .0) xs) h) _ (keptPayloads e ys page h w ts);
+            ∙ ap (λ (x : List (List ℕ)). x ++ keptPayloads e ys page h ts) (one .are)
+            ∙ append-assoc (payloads (pageOf (page .0) xs) h) _ (keptPayloads e ys page h ts);
       }
 
   -- the flash keeps its length
   pub history-length : (ts : List Episode) (xs : List ℕ) (o : ℕ) → flashFine (length xs) ≡ true → hasPage (length xs) (page .0) ≡ true → Good magic (page .0) h o (pageOf (page .0) xs) → AllPieces ts
-      → length (history e xs page h w ts) ≡ length xs
+      → length (history e xs page h ts) ≡ length xs
   unfolding history
   history-length [] xs o fine there good bytes = refl
   history-length (t ∷ ts) xs o fine there good bytes =
+      let w = t .writer in
       let ys = added e xs page h w (t .stores) (t .pieces) in
-      let one = addition-holds xs (t .stores) (t .pieces) o fine there good (bytes .0) in
+      let one = addition-holds e unmarked page magic h (t .writer) xs (t .stores) (t .pieces) o fine there good (bytes .0) in
       let l : length ys ≡ length xs = added-length e xs page h w (t .stores) o (record { flash = fine; header = good .length-fine; there = there }) (good .ends) (t .pieces) in
       history-length ts ys (one .o) (ap flashFine l ∙ fine) (ap (λ (n : ℕ). hasPage n (page .0)) l ∙ there) (one .good) (bytes .1) ∙ l
