@@ -14,8 +14,8 @@ use Rattle.cursor.specs.Pass.{passOf}
 use Rattle.cursor.specs.Places.{placeOf}
 use Rattle.cursor.specs.Settle.{isHidden, left, settleFrom, settled}
 use Rattle.cursor.specs.declared.answer.NextAnswer.the-variants.{End, Entry, Refused}
-use Rattle.cursor.specs.declared.check.Check.{Check}
-use Rattle.cursor.specs.declared.check.Check.the-variants as check
+use Rattle.types.specs.declared.refusal.Verdict.{Verdict}
+use Rattle.types.specs.declared.refusal.Verdict.the-variants as check
 use Rattle.cursor.specs.declared.look.Lowest.{Lowest}
 use Rattle.cursor.specs.declared.look.Lowest.the-variants as low
 use Rattle.cursor.specs.declared.pass.Pass.{Pass}
@@ -56,7 +56,7 @@ module _ (bytes ends : List ℕ) (bound : Bound) (upper : List ℕ) where
       by false further e = pass-ends bytes ends bound upper places e i b .1
 
   module _ (c : Cursor) (keyRoom valueRoom : ℕ) where
-    gone-by : (k : Check) (p : Pass) → (p .lowest ≡ low.None → AllGone (p .places)) → nextBy k bytes ends p keyRoom valueRoom c .answer ≡ End
+    gone-by : (k : Verdict) (p : Pass) → (p .lowest ≡ low.None → AllGone (p .places)) → nextBy k bytes ends p keyRoom valueRoom c .answer ≡ End
         → AllGone (nextBy k bytes ends p keyRoom valueRoom c .cursor .places)
     unfolding nextBy movedBy placesBy
     gone-by check.Fine p gone e i b =
