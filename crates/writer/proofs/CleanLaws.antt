@@ -1,5 +1,6 @@
 -- A writer that was opened to add stores on erased bytes alone: its places are erased when it is opened, and its own calls keep the
--- later ones so, until one is refused. Assumes nothing.
+-- later ones so, until one is refused. The page header is the one store that goes over what is there; it ends before those places.
+-- Assumes nothing.
 use mathlib.Core.Path.{_≡_, refl, sym, ap, subst, _∙_}
 use mathlib.Core.Bool.{Bool, true, false, cond}
 use mathlib.Core.List.{List, [], _∷_, _++_}
@@ -17,23 +18,26 @@ use Rattle.types.specs.declared.refusal.Verdict.the-variants as verdict
 use Rattle.types.proofs.TestLaws.{decided, eq-or-ne, le-or-lt}
 use Rattle.crc.specs.Register.{finished}
 use Rattle.flash.specs.Geometry.{pageOf}
-use Rattle.flash.specs.Operations.{Op, erase, opIf, applied}
+use Rattle.flash.specs.Operations.{Op, erase, store, opIf, applied}
 use Rattle.flash.specs.Patch.{blank}
 use Rattle.flash.proofs.OperationLaws.{applied-append}
 use Rattle.flash.proofs.PatchLaws.{getD-blank}
 use Rattle.page.specs.Chunks.{nextOffset}
+use Rattle.page.specs.Headers.{pageHeader}
 use Rattle.page.specs.Walks.{walkEnd, allErased}
 use Rattle.page.specs.declared.walk.Ending.{Ending}
 use Rattle.page.specs.declared.walk.Ending.the-variants.{EndAt, Corrupted}
 use Rattle.page.proofs.ErasedLaws.{erased-blank}
-use Rattle.page.proofs.PutLaws.{length-chunkHeader}
+use Rattle.page.proofs.PutLaws.{length-chunkHeader, length-pageHeader}
 use Rattle.writer.specs.Commits.{groupAt, restOps, sealOp, chunkOps, nextChunk, commitOps, committed}
+use Rattle.writer.specs.Headings.{headerOps, headed}
 use Rattle.writer.specs.Openings.{openedAfter, appendedAt, appended}
 use Rattle.writer.specs.States.{firstChunk, fresh}
-use Rattle.writer.specs.Verdicts.{openVerdict}
+use Rattle.writer.specs.Verdicts.{headingVerdict, openVerdict}
 use Rattle.writer.specs.Writes.{takes, grown, isFull, closeOps, closed, payloadOps, takingOps, takenOf, writeOps, written}
 use Rattle.writer.specs.declared.answers.Opening.the-variants.{Open}
 use Rattle.writer.specs.declared.page_writer.PageWriter.{PageWriter}
+use Rattle.writer.proofs.CheckLaws.{heading-passed, sound}
 use Rattle.writer.proofs.PlaceLaws.{taking-unarmed, length-bufferOf, payload-rising, rest-rising}
 use Rattle.writer.proofs.StoreLaws.{Rising, Erased, Lands, lands-append, rising-lands, erased-below, erased-behind}
 
@@ -154,3 +158,26 @@ write-clean e w bytes p even c =
     (λ (z : takes (length bytes) w ≡ 0). rw (eq-eqb (takes (length bytes) w) 0 z) (tt, c))
     (λ (n : takes (length bytes) w ≡ 0 → ⊥). rw (ne-eqb (takes (length bytes) w) 0 n) (taking-clean e w (takenOf w bytes) p even c))
     (eq-or-ne (takes (length bytes) w) 0)
+
+-- ---- write_header
+
+pub heading-clean : (n e : ℕ) (w : PageWriter) (magic : ℕ) (header p : List ℕ) → headingVerdict n w (length header) ≡ verdict.Fine → Clean e w p
+    → Clean e (headed w) (applied 0 (headerOps e w magic header) p)
+unfolding headerOps
+heading-clean n e w magic header p v c =
+    let o = w .offset in
+    let bytes = pageHeader magic (w .page .0) header in
+    let k = heading-passed n w (length header) v in
+    let h : length header ≡ w .h = k .1 .0 in
+    let after = sound w (k .0 .state) .after in
+    let long : length bytes ≡ 12 + length header = length-pageHeader magic (w .page .0) header in
+    let ops : List Op = store 0 bytes ∷ [] in
+    let r : Rising 0 o ops = (le-refl 0, rw long (omega arith)) in
+    let stays : (a b : ℕ) → o ≤ a → Erased e a b p → Erased e a b (applied 0 ops p) = λ a b f. erased-behind e a b 0 o ops p f r in
+    rw (c .unarmed)
+    (record {
+      unarmed = refl;
+      four = c .four;
+      head = stays o (o + 8) (le-refl o) (c .head);
+      rest = λ b. stays (groupAt w) b (omega arith) (c .rest b);
+    })

@@ -1,5 +1,5 @@
--- Every call's operations in their order: the erase, the payload's stores, the chunk's header. All lie within the page, and behind
--- the page header. Assumes nothing.
+-- Every call's operations in their order: the erase, the payload's stores, the chunk's header. For a writer in range all lie within
+-- the page, and behind the page header. Assumes nothing.
 use mathlib.Core.Path.{_≡_, refl, sym, ap, _∙_}
 use mathlib.Core.Bool.{Bool, true, false, cond}
 use mathlib.Core.List.{List, [], _∷_, _++_, append-assoc, append-nil}
@@ -33,6 +33,7 @@ pub record Placed (e : ℕ) (w : PageWriter) (ops : List Op) : Type 0 where
   pub payload : List Op
   pub seal : List Op
   pub parts : ops ≡ eraseOps e w ++ payload ++ seal
+  pub behind : firstChunk (w .h) ≤ w .offset
   pub rising : Rising (w .offset + chunkHeaderSize) pageSize payload
   pub header : (seal ≡ []) ⊎ ((bytes : List ℕ) × ((seal ≡ store (w .offset) bytes ∷ []) × (length bytes ≡ chunkHeaderSize)))
 
@@ -51,6 +52,7 @@ chunk-placed e w s four n =
       payload = restOps w;
       seal = sealOp w ∷ [];
       parts = refl;
+      behind = s .after;
       rising = rising-from (w .offset + 8) (groupAt w) 4096 (restOps w) (omega arith)
           (rising-to (groupAt w) (nextOffset (w .offset) (w .pending)) 4096 (restOps w) (omega arith) (rest-rising w four (s .even)));
       header = inr (seal-bytes w);
@@ -71,25 +73,26 @@ close-sealed e w a =
     (λ (f : isFull w ≡ false). inl (rw f))
     (decided (isFull w))
 
-taking-placed : (e : ℕ) (w : PageWriter) (bytes : List ℕ) → length (w .buf) ≡ align → w .offset + chunkHeaderSize + (w .pending + length bytes) ≤ pageSize
+taking-placed : (e : ℕ) (w : PageWriter) (bytes : List ℕ) → Sound w → length (w .buf) ≡ align → w .offset + chunkHeaderSize + (w .pending + length bytes) ≤ pageSize
     → Placed e w (takingOps e w bytes)
 unfolding takingOps
-taking-placed e w bytes four fits =
+taking-placed e w bytes s four fits =
     record {
       payload = payloadOps w bytes;
       seal = closeOps e (grown w bytes);
       parts = refl;
+      behind = s .after;
       rising = rising-from (w .offset + 8) (groupAt w) 4096 (payloadOps w bytes) (omega arith)
           (rising-to (groupAt w) (groupAt (grown w bytes)) 4096 (payloadOps w bytes) (omega arith) (payload-rising w bytes four));
       header = close-sealed e (grown w bytes) refl;
     }
 
-pub write-placed : (e : ℕ) (w : PageWriter) (bytes : List ℕ) → length (w .buf) ≡ align → (writeOps e w bytes ≡ []) ⊎ Placed e w (writeOps e w bytes)
-write-placed e w bytes four =
+pub write-placed : (e : ℕ) (w : PageWriter) (bytes : List ℕ) → Sound w → length (w .buf) ≡ align → (writeOps e w bytes ≡ []) ⊎ Placed e w (writeOps e w bytes)
+write-placed e w bytes s four =
     ⊎-elim (λ (z : takes (length bytes) w ≡ 0). inl (rw (eq-eqb (takes (length bytes) w) 0 z)))
     (λ (n : takes (length bytes) w ≡ 0 → ⊥).
     inr (rw (ne-eqb (takes (length bytes) w) 0 n)
-    (taking-placed e w (takenOf w bytes) four (pending-room (w .offset) (w .pending + length (takenOf w bytes)) (taken-room w bytes n) (taken-some w bytes n)))))
+    (taking-placed e w (takenOf w bytes) s four (pending-room (w .offset) (w .pending + length (takenOf w bytes)) (taken-room w bytes n) (taken-some w bytes n)))))
     (eq-or-ne (takes (length bytes) w) 0)
 
 -- the page header ends where the chunks start

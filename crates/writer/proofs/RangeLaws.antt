@@ -1,8 +1,8 @@
--- A state in range stays in range, whatever the call, and opening gives one. Assumes nothing.
+-- A state in range stays in range, whatever the call and whether or not it is refused, and opening gives one. Assumes nothing.
 use mathlib.Core.Path.{_≡_, refl, sym, ap, _∙_}
 use mathlib.Core.Bool.{Bool, true, false, cond}
 use mathlib.Core.List.{List}
-use mathlib.Core.Logic.{⊎-elim}
+use mathlib.Core.Logic.{_⊎_, inl, inr, ⊎-elim}
 use Prim.Native.Nat.{ℕ, _+_, _-_, _*_, _/_, _%_, _≤_, _<_, min}
 use native.Mathlib.Omega.{arith}
 use lib.Dec.{eqb, ltb}
@@ -21,13 +21,13 @@ use Rattle.page.specs.Walks.{walkEnd, allErased}
 use Rattle.page.specs.declared.walk.Ending.{Ending}
 use Rattle.page.specs.declared.walk.Ending.the-variants.{EndAt, Corrupted}
 use Rattle.page.proofs.LaidLaws.{walk-ended}
-use Rattle.writer.specs.Commits.{nextChunk, committed}
-use Rattle.writer.specs.Headings.{headed}
+use Rattle.writer.specs.Commits.{nextChunk, commitOps, committed}
+use Rattle.writer.specs.Headings.{headerOps, headed}
 use Rattle.writer.specs.Openings.{openAs, openedAfter, opened, resumeAt, appendedAt, appended}
-use Rattle.writer.specs.Outcomes.{ended}
+use Rattle.writer.specs.Outcomes.{ended, wrote}
 use Rattle.writer.specs.States.{firstChunk, mostPending, inRange, fresh, newWriter}
-use Rattle.writer.specs.Verdicts.{openVerdict}
-use Rattle.writer.specs.Writes.{takes, grown, isFull, closed, takenOf, written}
+use Rattle.writer.specs.Verdicts.{writerVerdict, headingVerdict, openVerdict}
+use Rattle.writer.specs.Writes.{takes, grown, isFull, closed, takenOf, writeOps, written}
 use Rattle.writer.specs.declared.answers.Opened.{Opened}
 use Rattle.writer.specs.declared.answers.Opening.the-variants.{Open, Refused}
 use Rattle.writer.specs.declared.page_writer.PageWriter.{PageWriter}
@@ -176,3 +176,45 @@ append-range e xs page h w left = by (openVerdict (length xs) (page .0) h) refl 
         let t = walk-ended (pageOf (page .0) xs) (firstChunk h) o q in
         let r = resume-place e h o (pageOf (page .0) xs) (t .group (f .0)) (t .up) (t .within (f .1)) in
         open-fresh (length xs) page h (resumeAt e (pageOf (page .0) xs) o) false p (r .0) (r .1 .0) (r .1 .1)
+
+-- ---- what each call hands back, refused or not
+
+-- an opening is done, or the writer is as at entry
+abbrev DoneOrBack : PageWriter → Opened → Type 0
+DoneOrBack w o = (o .answer ≡ Open) ⊎ (o .writer ≡ w)
+
+open-or-back : (xs : List ℕ) (page : PageID) (h : ℕ) (w : PageWriter) (left : ℕ) → DoneOrBack w (opened xs page h w left)
+unfolding opened
+open-or-back xs page h w left = by (openVerdict (length xs) (page .0) h)
+  where
+    by : (v : Verdict) → DoneOrBack w (openedAfter v w left (openAs (fresh true page h (firstChunk h)) left))
+    by (verdict.Refused why) = inr refl
+    by verdict.Fine = inl refl
+
+append-or-back : (e : ℕ) (xs : List ℕ) (page : PageID) (h : ℕ) (w : PageWriter) (left : ℕ) → DoneOrBack w (appended e xs page h w left)
+unfolding appended
+append-or-back e xs page h w left = by (openVerdict (length xs) (page .0) h) (walkEnd (pageOf (page .0) xs) (firstChunk h))
+  where
+    by : (v : Verdict) (end : Ending) → DoneOrBack w (openedAfter v w left (appendedAt e (pageOf (page .0) xs) page h w left end))
+    by (verdict.Refused why) end = inr refl
+    by verdict.Fine Corrupted = inr refl
+    by verdict.Fine (EndAt o) = inl refl
+
+module _ (e : ℕ) (xs : List ℕ) (w : PageWriter) (left : ℕ) (r : inRange w ≡ true) where
+  pub open-in-range : (page : PageID) (h : ℕ) → inRange (opened xs page h w left .writer) ≡ true
+  open-in-range page h = ⊎-elim (open-range xs page h w left) (λ q. ap inRange q ∙ r) (open-or-back xs page h w left)
+
+  pub append-in-range : (page : PageID) (h : ℕ) → inRange (appended e xs page h w left .writer) ≡ true
+  append-in-range page h = ⊎-elim (append-range e xs page h w left) (λ q. ap inRange q ∙ r) (append-or-back e xs page h w left)
+
+  pub write-in-range : (bytes : List ℕ)
+      → inRange (wrote (takes (length bytes) w) (ended (writerVerdict (length xs) w) (writeOps e w bytes) (written w bytes) w left) .writer) ≡ true
+  write-in-range bytes = ended-range (writerVerdict (length xs) w) (writeOps e w bytes) (written w bytes) w left r (write-range w bytes r)
+
+  pub commit-in-range : inRange (ended (writerVerdict (length xs) w) (commitOps e w) (committed w) w left .writer) ≡ true
+  commit-in-range = ended-range (writerVerdict (length xs) w) (commitOps e w) (committed w) w left r (commit-range w r)
+
+  pub heading-in-range : (magic : ℕ) (header : List ℕ)
+      → inRange (ended (headingVerdict (length xs) w (length header)) (headerOps e w magic header) (headed w) w left .writer) ≡ true
+  heading-in-range magic header =
+      ended-range (headingVerdict (length xs) w (length header)) (headerOps e w magic header) (headed w) w left r (heading-range w ∙ r)
