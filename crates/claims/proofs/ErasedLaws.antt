@@ -2,11 +2,11 @@
 -- Assumes nothing.
 use mathlib.Core.Path.{_≡_, refl, sym, ap, subst, _∙_}
 use mathlib.Core.Bool.{Bool, true, false, cond}
-use mathlib.Core.List.{List, [], _∷_}
+use mathlib.Core.List.{List, [], _∷_, _++_}
 use mathlib.Core.Logic.{⊎-elim}
 use Prim.Native.Nat.{ℕ, _-_, _≤_, _<_}
 use native.Mathlib.Omega.{arith}
-use lib.Dec.{eqb}
+use lib.Dec.{eqb, leb}
 use lib.ListN.{length, take}
 use lib.Seq.{take-all}
 use borrow.Author.Tests.{le-leb, lt-leb}
@@ -25,30 +25,17 @@ use Rattle.writer.specs.Outcomes.{ended, endedFlash}
 use Rattle.writer.specs.States.{inRange, firstChunk}
 use Rattle.writer.specs.Verdicts.{openVerdict, writerVerdict}
 use Rattle.writer.specs.declared.answers.Opening.the-variants.{Open}
-use Rattle.writer.specs.declared.answers.Outcome.{Outcome}
 use Rattle.writer.specs.declared.answers.Outcome.the-variants.{Done, Refused}
 use Rattle.writer.specs.declared.page_writer.PageWriter.{PageWriter}
 use Rattle.writer.proofs.CheckLaws.{sound}
 use Rattle.writer.proofs.CleanLaws.{Clean, append-clean, write-clean, commit-clean}
 use Rattle.writer.proofs.RangeLaws.{write-range, commit-range, append-range}
-use Rattle.writer.proofs.StoreLaws.{Lands, lands-take}
+use Rattle.writer.proofs.StoreLaws.{Lands, lands-append, lands-take}
 use Rattle.page.specs.Walks.{walkEnd}
 use Rattle.page.specs.declared.walk.Ending.{Ending}
 use Rattle.page.specs.declared.walk.Ending.the-variants.{EndAt, Corrupted}
-use Rattle.claims.specs.Sequences.{AddCall, writes, commits, owed, goesOn, callMakes, callEnds, callFlash}
+use Rattle.claims.specs.Sequences.{AddCall, writes, commits, owed, goesOn, unlessRefused, callsMake}
 use Rattle.claims.proofs.CallLaws.{written-page}
-
--- after a call that was not refused
-abbrev pub Unless : Outcome → Type 0 → Type 0
-Unless Done further = further
-Unless (Refused why) further = Unit
-
--- each store that these calls make, when it is made, lies on erased bytes of the writer's page; up to the first that is refused
-unfoldable pub AllLand : ℕ → List AddCall → PageWriter → ℕ → List ℕ → Type 0
-AllLand e [] w left xs = Unit
-AllLand e (call ∷ calls) w left xs =
-    Lands e (callMakes e call w left xs) (pageOf (w .page .0) xs)
-    × Unless (callEnds e call w left xs .answer) (AllLand e calls (callEnds e call w left xs .writer) (callEnds e call w left xs .left) (callFlash e call w left xs))
 
 -- ---- one call
 
@@ -72,7 +59,7 @@ call-clean e commits w p r c = commit-clean e w p (sound w r .even) c
 
 -- a call, and those after it by what is known of its writer and its page
 module _ (e : ℕ) (call : AddCall) (calls : List AddCall) (w : PageWriter) (left : ℕ) (xs : List ℕ) (r : inRange w ≡ true) (c : Clean e w (pageOf (w .page .0) xs))
-    (further : (v : PageWriter) (n : ℕ) (ys : List ℕ) → inRange v ≡ true → Clean e v (pageOf (v .page .0) ys) → AllLand e calls v n ys) where
+    (further : (v : PageWriter) (n : ℕ) (ys : List ℕ) → inRange v ≡ true → Clean e v (pageOf (v .page .0) ys) → Lands e (callsMake e calls v n ys) (pageOf (v .page .0) ys)) where
   abbrev ops : List Op
   ops = owed e call w
 
@@ -85,31 +72,34 @@ module _ (e : ℕ) (call : AddCall) (calls : List AddCall) (w : PageWriter) (lef
   abbrev ys : List ℕ
   ys = applied (pageStart (w .page .0)) (take left ops) xs
 
-  abbrev Further : Bool → Type 0
-  Further t = Unless (cond t Done (Refused Cut)) (AllLand e calls (cond t next w) (left - length ops) ys)
+  abbrev later : Bool → List Op
+  later t = unlessRefused (cond t Done (Refused Cut)) (callsMake e calls (cond t next w) (left - length ops) ys)
 
-  next-page : length ops ≤ left → pageOf (next .page .0) ys ≡ applied 0 ops page
-  next-page all =
-      ap (λ (p : PageID). pageOf (p .0) ys) (call-page call w)
-      ∙ page-applied (pageStart (w .page .0)) (take left ops) xs
-      ∙ ap (λ (l : List Op). applied 0 l page) (take-all left ops all)
+  next-page : pageOf (next .page .0) ys ≡ applied 0 (take left ops) page
+  next-page = ap (λ (p : PageID). pageOf (p .0) ys) (call-page call w) ∙ page-applied (pageStart (w .page .0)) (take left ops) xs
+
+  next-clean : length ops ≤ left → Clean e next (pageOf (next .page .0) ys)
+  next-clean all =
+      subst (λ (p : List ℕ). Clean e next p) (sym (next-page ∙ ap (λ (l : List Op). applied 0 l page) (take-all left ops all))) (call-clean e call w page r c .1)
+
+  later-land : Lands e (later (leb (length ops) left)) (applied 0 (take left ops) page)
+  later-land =
+      ⊎-elim
+      (λ (all : length ops ≤ left).
+      subst (λ (t : Bool). Lands e (later t) (applied 0 (take left ops) page)) (sym (le-leb (length ops) left all))
+      (subst (λ (p : List ℕ). Lands e (later true) p) next-page (further next (left - length ops) ys (call-range call w r) (next-clean all))))
+      (λ (short : left < length ops). subst (λ (t : Bool). Lands e (later t) (applied 0 (take left ops) page)) (sym (lt-leb (length ops) left short)) tt)
+      (le-or-lt (length ops) left)
 
   call-lands : (v : Verdict)
-      → Lands e (madeOf v ops left) page
-      × Unless (ended v ops next w left .answer) (AllLand e calls (ended v ops next w left .writer) (ended v ops next w left .left) (endedFlash v ops w left xs))
-  call-lands (verdict.Refused why) = (tt, tt)
-  call-lands verdict.Fine = (
-    lands-take e left ops page (call-clean e call w page r c .0),
-    ⊎-elim
-        (λ (all : length ops ≤ left).
-        subst Further (sym (le-leb (length ops) left all))
-        (further next (left - length ops) ys (call-range call w r) (subst (λ (p : List ℕ). Clean e next p) (sym (next-page all)) (call-clean e call w page r c .1))))
-        (λ (short : left < length ops). subst Further (sym (lt-leb (length ops) left short)) tt)
-        (le-or-lt (length ops) left),
-  )
+      → Lands e (madeOf v ops left ++ unlessRefused (ended v ops next w left .answer) (callsMake e calls (ended v ops next w left .writer) (ended v ops next w left .left) (endedFlash v ops w left xs))) page
+  call-lands (verdict.Refused why) = tt
+  call-lands verdict.Fine =
+      lands-append e (take left ops) (later (leb (length ops) left)) page (lands-take e left ops page (call-clean e call w page r c .0)) later-land
 
-all-land : (e : ℕ) (calls : List AddCall) (w : PageWriter) (left : ℕ) (xs : List ℕ) → inRange w ≡ true → Clean e w (pageOf (w .page .0) xs) → AllLand e calls w left xs
-unfolding AllLand
+all-land : (e : ℕ) (calls : List AddCall) (w : PageWriter) (left : ℕ) (xs : List ℕ) → inRange w ≡ true → Clean e w (pageOf (w .page .0) xs)
+    → Lands e (callsMake e calls w left xs) (pageOf (w .page .0) xs)
+unfolding callsMake
 all-land e [] w left xs r c = tt
 all-land e (call ∷ calls) w left xs r c =
     call-lands e call calls w left xs r c (λ v n ys. all-land e calls v n ys) (writerVerdict (length xs) w)
@@ -125,9 +115,13 @@ append-page e xs page h w k a = by (openVerdict (length xs) (page .0) h) (walkEn
     by verdict.Fine Corrupted a = let z : _≡_ {A = ℕ} 0 1 = cc in absurd (omega arith)
     by verdict.Fine (EndAt o) a = refl
 
--- WRITES ON ERASED: after a reopening, whatever is written and committed, with any number of stores allowed
+-- WRITES ON ERASED: after a reopening, whatever is written and committed, with any number of stores allowed, each store that is made up
+-- to the first refusal lies on bytes of the page that read as erased just before it
 pub writes-on-erased : (e : ℕ) (xs : List ℕ) (page : PageID) (h : ℕ) (w : PageWriter) (k : ℕ) (calls : List AddCall) → appended e xs page h w k .answer ≡ Open
-    → AllLand e calls (appended e xs page h w k .writer) (appended e xs page h w k .left) xs
+    → Lands e (callsMake e calls (appended e xs page h w k .writer) (appended e xs page h w k .left) xs) (pageOf (page .0) xs)
 writes-on-erased e xs page h w k calls a =
-    all-land e calls (appended e xs page h w k .writer) (appended e xs page h w k .left) xs (append-range e xs page h w k a)
-    (subst (λ (p : PageID). Clean e (appended e xs page h w k .writer) (pageOf (p .0) xs)) (sym (append-page e xs page h w k a)) (append-clean e xs page h w k a))
+    let v = appended e xs page h w k .writer in
+    let same : v .page ≡ page = append-page e xs page h w k a in
+    subst (λ (p : PageID). Lands e (callsMake e calls v (appended e xs page h w k .left) xs) (pageOf (p .0) xs)) same
+    (all-land e calls v (appended e xs page h w k .left) xs (append-range e xs page h w k a)
+    (subst (λ (p : PageID). Clean e v (pageOf (p .0) xs)) (sym same) (append-clean e xs page h w k a)))

@@ -1,6 +1,6 @@
 -- Any writes and commits, one after the other: each gets the writer, the stores left and the flash that the one before it left, by
 -- the definitions that the calls promise. Assumes nothing.
-use mathlib.Core.List.{List}
+use mathlib.Core.List.{List, [], _∷_, _++_}
 use Prim.Native.Nat.{ℕ}
 use lib.ListN.{length}
 use Rattle.flash.specs.Operations.{Op}
@@ -10,6 +10,8 @@ use Rattle.writer.specs.Outcomes.{ended, endedFlash}
 use Rattle.writer.specs.Verdicts.{writerVerdict}
 use Rattle.writer.specs.Writes.{writeOps, written}
 use Rattle.writer.specs.declared.answers.Ended.{Ended}
+use Rattle.writer.specs.declared.answers.Outcome.{Outcome}
+use Rattle.writer.specs.declared.answers.Outcome.the-variants.{Done, Refused}
 use Rattle.writer.specs.declared.page_writer.PageWriter.{PageWriter}
 
 pub data AddCall : Type 0 where
@@ -34,3 +36,14 @@ callEnds e call w left xs = ended (writerVerdict (length xs) w) (owed e call w) 
 
 abbrev pub callFlash : ℕ → AddCall → PageWriter → ℕ → List ℕ → List ℕ
 callFlash e call w left xs = endedFlash (writerVerdict (length xs) w) (owed e call w) w left xs
+
+-- all that calls make, up to the first that is refused
+abbrev pub unlessRefused : Outcome → List Op → List Op
+unlessRefused Done further = further
+unlessRefused (Refused why) further = []
+
+unfoldable pub callsMake : ℕ → List AddCall → PageWriter → ℕ → List ℕ → List Op
+callsMake e [] w left xs = []
+callsMake e (call ∷ calls) w left xs =
+    callMakes e call w left xs
+    ++ unlessRefused (callEnds e call w left xs .answer) (callsMake e calls (callEnds e call w left xs .writer) (callEnds e call w left xs .left) (callFlash e call w left xs))

@@ -1,4 +1,4 @@
--- A flash of one page with a header and one chunk, whose payload is the byte 5: as small as a good page gets. Assumes nothing.
+-- Flashes of one page: with a header alone, and with one chunk behind it, whose payload is the byte 5. Assumes nothing.
 use mathlib.Core.List.{List, [], _∷_, _++_}
 use Prim.Native.Nat.{ℕ, _-_}
 use Rattle.types.specs.Build.{eraseValue, pageSize}
@@ -7,6 +7,7 @@ use Rattle.crc.specs.Published.{published}
 use Rattle.flash.specs.Patch.{blank}
 use Rattle.page.specs.Chunks.{chunkHeader}
 use Rattle.page.specs.Headers.{pageHeader}
+use Rattle.claims.specs.Sequences.{AddCall, writes, commits}
 
 abbrev pub workedMagic : ℕ
 workedMagic = 7
@@ -20,3 +21,10 @@ chunkOfOne byte = chunkHeader 1 (published (byte ∷ [])) ++ (byte ∷ 0 ∷ 0 �
 
 unfoldable pub workedFlash : List ℕ
 workedFlash = pageHeader workedMagic 0 [] ++ (chunkOfOne 5 ++ blank eraseValue (pageSize - 24))
+
+unfoldable pub headedFlash : List ℕ
+headedFlash = pageHeader workedMagic 0 [] ++ blank eraseValue (pageSize - 12)
+
+-- two chunks of one byte each
+abbrev pub twoChunks : List AddCall
+twoChunks = writes (0 ∷ []) ∷ commits ∷ writes (1 ∷ []) ∷ commits ∷ []
