@@ -37,6 +37,10 @@ tooLong = record { offset = 12; len = 4077; finds = Corrupted }
 abbrev pub walkCases : List WalkCase
 walkCases = headerAt4088 ∷ endAt4092 ∷ longestAt12 ∷ longestAt16 ∷ tooLong ∷ []
 
+-- at 12 the page's end refuses 4077 too; at 8 the page has room for it, and the longest length alone refuses it
+abbrev pub tooLongWithRoom : WalkCase
+tooLongWithRoom = record { offset = 8; len = 4077; finds = Corrupted }
+
 -- what the walk does find
 unfoldable pub walkOutcome : WalkCase → Step
 walkOutcome c = chunkAt (patch (c .offset) (chunkHeader (c .len) 0) (blank eraseValue pageSize)) (c .offset)

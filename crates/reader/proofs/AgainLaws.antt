@@ -12,7 +12,7 @@ use Rattle.types.specs.declared.refusal.Refusal.the-variants as row
 use Rattle.types.specs.declared.refusal.Verdict.{Verdict}
 use Rattle.types.specs.declared.refusal.Verdict.the-variants.{Fine, Refused}
 use Rattle.flash.specs.Geometry.{pageOf}
-use Rattle.reader.specs.Calls.{passageAfter, taken, read, bytesAfter, laidOver, readBytes, gone, skip, endTestAfter, tested, isAtEof, openingAfter, opened, opening, openPage, rehydrating, rehydrateFrom}
+use Rattle.reader.specs.Calls.{passageAfter, taken, read, bytesAfter, laidOver, readBytes, passageOf, skip, endTestAfter, tested, isAtEof, openingAfter, opened, opening, openPage, rehydrating, rehydrateFrom}
 use Rattle.reader.specs.Checks.{openVerdict, readerVerdict}
 use Rattle.reader.specs.Moves.{ready, skipped}
 use Rattle.reader.specs.States.{restored}
@@ -61,7 +61,7 @@ module _ (r : PageReader) (flash : List ℕ) (w : Refusal) where
   unfolding skip
   skip-kept n e = by (readerVerdict (length flash) r) (skipped (pageOf (r .page .0) flash) n r) e
     where
-      by : (v : Verdict) (p : Passed) → passageAfter v r (gone r n p) .answer ≡ count.Refused w → passageAfter v r (gone r n p) .reader ≡ r
+      by : (v : Verdict) (p : Passed) → passageAfter v r (passageOf r n p) .answer ≡ count.Refused w → passageAfter v r (passageOf r n p) .reader ≡ r
       by (Refused x) p e = refl
       by Fine (passed.To s left) e = let z : _≡_ {A = ℕ} 0 1 = cc in absurd (omega arith)
       by Fine passed.Corrupted e = refl

@@ -16,7 +16,7 @@ use Rattle.flash.specs.Geometry.{pageOf}
 use Rattle.page.specs.Chunks.{nextOffset, payloadAt, checkedAt}
 use Rattle.page.specs.Headers.{pageHeaderFine}
 use Rattle.page.proofs.ChunkLaws.{checked-found}
-use Rattle.reader.specs.Calls.{passageAfter, taken, read, gone, skip, endTestAfter, tested, isAtEof, openingAfter, opened, openPage, rehydrateFrom}
+use Rattle.reader.specs.Calls.{passageAfter, taken, read, passageOf, skip, endTestAfter, tested, isAtEof, openingAfter, opened, openPage, rehydrateFrom}
 use Rattle.reader.specs.Checks.{openVerdict, readerVerdict}
 use Rattle.reader.specs.Moves.{arriving, moved, ready, restOf, past, onward, skipBy, skipped}
 use Rattle.reader.specs.States.{unread, stored}
@@ -100,9 +100,9 @@ module _ (r : PageReader) (flash : List ℕ) (k : Summed flash r) where
   unfolding skip skipped
   skip-call-summed n =
       let page = pageOf (r .page .0) flash in
-      summed-after (readerVerdict (length flash) r) (gone r n (skipBy 513 page n r)) (by (skipBy 513 page n r) (skip-summed flash (r .page) 513 n r refl k))
+      summed-after (readerVerdict (length flash) r) (passageOf r n (skipBy 513 page n r)) (by (skipBy 513 page n r) (skip-summed flash (r .page) 513 n r refl k))
     where
-      by : (p : Passed) → SummedOf flash p → Summed flash (gone r n p .reader)
+      by : (p : Passed) → SummedOf flash p → Summed flash (passageOf r n p .reader)
       by (passed.To s left) h = h
       by passed.Corrupted h = k
 

@@ -16,7 +16,7 @@ use Rattle.crc.specs.Published.{published}
 use Rattle.flash.specs.Geometry.{pageOf}
 use Rattle.page.specs.Chunks.{nextOffset, payloadAt, checkedAt}
 use Rattle.page.specs.Headers.{pageHeaderFine}
-use Rattle.reader.specs.Calls.{passageAfter, read, taken, skip, gone, isAtEof, endTestAfter, tested, openPage, openingAfter, opened, rehydrateFrom}
+use Rattle.reader.specs.Calls.{passageAfter, read, taken, skip, passageOf, isAtEof, endTestAfter, tested, openPage, openingAfter, opened, rehydrateFrom}
 use Rattle.reader.specs.Checks.{inRange, openVerdict, readerVerdict}
 use Rattle.reader.specs.Moves.{arriving, moved, ready, restOf, past, onward, skipBy, skipped}
 use Rattle.reader.specs.States.{newReader, unread, restored}
@@ -122,9 +122,9 @@ module _ (r : PageReader) (flash : List ℕ) (k : inRange r ≡ true) where
   unfolding skip
   skip-in-range n =
       let page = pageOf (r .page .0) flash in
-      range-after (readerVerdict (length flash) r) (gone r n (skipped page n r)) (by page (skipped page n r) refl)
+      range-after (readerVerdict (length flash) r) (passageOf r n (skipped page n r)) (by page (skipped page n r) refl)
     where
-      by : (page : List ℕ) (p : Passed) → skipped page n r ≡ p → InRange (gone r n p .reader)
+      by : (page : List ℕ) (p : Passed) → skipped page n r ≡ p → InRange (passageOf r n p .reader)
       by page (passed.To s left) e = skip-range page n r s left (range-known r k) e
       by page passed.Corrupted e = range-known r k
 

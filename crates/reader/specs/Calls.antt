@@ -114,12 +114,12 @@ readBytes r flash buffer =
 -- ---- skip
 
 -- so many bytes were passed as were asked for, less those that were not there
-abbrev pub gone : PageReader → ℕ → Passed → Passage
-gone r n (passed.To s left) = record { answer = count.Bytes (n - left); reader = s }
-gone r n passed.Corrupted = record { answer = count.Refused row.Corrupted; reader = r }
+abbrev pub passageOf : PageReader → ℕ → Passed → Passage
+passageOf r n (passed.To s left) = record { answer = count.Bytes (n - left); reader = s }
+passageOf r n passed.Corrupted = record { answer = count.Refused row.Corrupted; reader = r }
 
 unfoldable pub skip : PageReader → List ℕ → ℕ → Passage
-skip r flash n = passageAfter (readerVerdict (length flash) r) r (gone r n (skipped (pageOf (r .page .0) flash) n r))
+skip r flash n = passageAfter (readerVerdict (length flash) r) r (passageOf r n (skipped (pageOf (r .page .0) flash) n r))
 
 -- ---- is_at_eof
 

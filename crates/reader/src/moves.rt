@@ -1,4 +1,4 @@
-// Where a reader goes on its page. The sum of a chunk is checked on arriving there, and nowhere else.
+// Where a reader goes on its page. The sum of a chunk is checked on arriving there; rehydrate_from checks a kept reader's again.
 use crate::page_reader::PageReader;
 use flash::part::part_of;
 use page::chunk::Step;
