@@ -2,8 +2,7 @@
 use mathlib.Core.Bool.{cond}
 use mathlib.Core.List.{List, [], _∷_}
 use Prim.Native.Nat.{ℕ}
-use Rattle.types.specs.Refusals.{numberOf}
-use Rattle.types.specs.declared.refusal.Refusal.{Refusal}
+use Rattle.types.specs.Answers.{Told, answered, refusal}
 use Rattle.reader.specs.declared.answers.Count.{Count}
 use Rattle.reader.specs.declared.answers.Count.the-variants as count
 use Rattle.reader.specs.declared.answers.Dehydration.{Dehydration}
@@ -15,18 +14,6 @@ use Rattle.reader.specs.declared.answers.Outcome.the-variants as outcome
 use Rattle.reader.specs.declared.answers.Page.{Page}
 use Rattle.reader.specs.declared.answers.Page.the-variants as number
 use Rattle.reader.specs.declared.dehydrated.DehydratedPageReader.{DehydratedPageReader}
-
-pub record Told : Type 0 where
-  pub number : ℕ
-  pub values : List ℕ
-
--- answered, with these values
-abbrev pub answered : List ℕ → Told
-answered vs = record { number = 0; values = vs }
-
--- refused
-abbrev pub refusal : Refusal → Told
-refusal why = record { number = numberOf why; values = [] }
 
 abbrev pub outcomeTold : Outcome → Told
 outcomeTold outcome.Done = answered []

@@ -1,8 +1,6 @@
 -- Each answer in document 01's words: the number of the row that refuses, 0 where none does, and the values. Assumes nothing.
-use mathlib.Core.List.{List, [], _∷_}
-use Prim.Native.Nat.{ℕ}
-use Rattle.types.specs.Refusals.{numberOf}
-use Rattle.types.specs.declared.refusal.Refusal.{Refusal}
+use mathlib.Core.List.{[], _∷_}
+use Rattle.types.specs.Answers.{Told, answered, refusal}
 use Rattle.writer.specs.declared.answers.Length.{Length}
 use Rattle.writer.specs.declared.answers.Length.the-variants as len
 use Rattle.writer.specs.declared.answers.Opening.{Opening}
@@ -13,18 +11,6 @@ use Rattle.writer.specs.declared.answers.Place.{Place}
 use Rattle.writer.specs.declared.answers.Place.the-variants as place
 use Rattle.writer.specs.declared.answers.Taking.{Taking}
 use Rattle.writer.specs.declared.answers.Taking.the-variants as taking
-
-pub record Told : Type 0 where
-  pub number : ℕ
-  pub values : List ℕ
-
--- answered, with these values
-abbrev pub answered : List ℕ → Told
-answered vs = record { number = 0; values = vs }
-
--- refused
-abbrev pub refusal : Refusal → Told
-refusal why = record { number = numberOf why; values = [] }
 
 abbrev pub openingTold : Opening → Told
 openingTold opening.Open = answered []

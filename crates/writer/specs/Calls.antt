@@ -3,12 +3,13 @@
 use mathlib.Core.List.{List, [], _∷_}
 use Prim.Native.Nat.{ℕ}
 use lib.ListN.{length, take}
+use Rattle.types.specs.Answers.{Told}
 use Rattle.types.specs.Build.{eraseValue}
 use Rattle.types.specs.declared.page_id.PageID.{PageID}
 use Rattle.types.specs.declared.refusal.Verdict.{Verdict}
 use Rattle.types.specs.declared.refusal.Verdict.the-variants.{Fine, Refused}
 use Rattle.flash.specs.Operations.{Op}
-use Rattle.writer.specs.Answers.{Told, openingTold, outcomeTold, takingTold}
+use Rattle.writer.specs.Answers.{openingTold, outcomeTold, takingTold}
 use Rattle.writer.specs.Commits.{commitOps, committed}
 use Rattle.writer.specs.Headings.{headerOps, headed}
 use Rattle.writer.specs.Openings.{opened, appended}
