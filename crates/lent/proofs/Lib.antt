@@ -1,4 +1,6 @@
 pub mod InPlace
+pub mod Lending
+pub mod LendingReader
 pub mod LentAllocator
 pub mod LentRun
 pub mod LentSteps
