@@ -2,6 +2,8 @@
 ghost use mathlib.Core.Path.{_≡_};
 ghost use Rattle.run.specs.Records.{keyIn, valueIn};
 ghost use Rattle.lent.specs.Readers.{readerAt, stepOf, movedOn};
+ghost use Rattle.lent.specs.Steps.{stepAt};
+use crate::step::Step;
 use crate::step::step_at;
 use run::record::Head;
 use run::record::Record;
@@ -41,4 +43,16 @@ pub fn value<'a>(reader: RunReader<'a>, found: Record) -> &'a [u8]
     ensures answers { λ r. ⌜ now r ≡ valueIn (now (reader .entry .run)) found ⌝ }
 {
     found.value_in(reader.run)
+}
+
+// One step of a reader that is made for it: for callers that hold no reader.
+pub fn read_at(run: &[u8], at: usize) -> Step
+    ensures answers { λ r. ⌜ r ≡ stepAt (now (run .entry)) at ⌝ }
+{
+    let mut reader = RunReader { run, at };
+    let head = next(&mut reader);
+    Step {
+        head,
+        at: reader.at,
+    }
 }

@@ -1,4 +1,4 @@
-// A step of a run reader over lent bytes and a position: what every caller without a reader uses, and what the reader's own calls stand on.
+// A step of a run reader, over lent bytes and a position: what the reader's calls stand on.
 ghost use mathlib.Core.Path.{_≡_};
 ghost use Rattle.lent.specs.Steps.{headWithin, placeAfter, stepAt};
 use run::record::Head;
@@ -32,7 +32,7 @@ fn place_after(head: Head, at: usize) -> usize
     }
 }
 
-pub fn step_at(run: &[u8], at: usize) -> Step
+pub(crate) fn step_at(run: &[u8], at: usize) -> Step
     ensures answers { λ r. ⌜ r ≡ stepAt (now (run .entry)) at ⌝ }
 {
     let head = head_within(run, at);

@@ -1,7 +1,6 @@
-// A run, read by a reader that holds it and, step by step, without one.
+// A run, read by a reader that holds it and, step by step, by a caller without one.
 use crate::say;
 use lent::reader;
-use lent::step::step_at;
 use run::record::Head;
 use run::record::Record;
 
@@ -52,7 +51,7 @@ fn say_head(run: &[u8], head: Head) {
 
 // What stands at a position, and the position afterwards.
 fn say_step(run: &[u8], at: usize) -> usize {
-    let step = step_at(run, at);
+    let step = reader::read_at(run, at);
     let head = step.head;
     say::text(b"at");
     say::number(at);
