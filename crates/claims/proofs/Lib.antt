@@ -16,7 +16,6 @@ pub mod OneCrc
 pub mod OneCursor
 pub mod OneExports
 pub mod OneFlash
-pub mod OneLent
 pub mod OnePage
 pub mod OneReader
 pub mod OneRun
