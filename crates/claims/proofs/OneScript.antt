@@ -7,6 +7,7 @@ use Rattle.script.proofs.number.word32_in.Reads.{Learnt as word32-in}
 use Rattle.script.proofs.number.sign_apart.Reads.{Learnt as sign-apart}
 use Rattle.script.proofs.space.script_space.Reads.{Learnt as script-space}
 use Rattle.script.proofs.space.line_space.Reads.{Learnt as line-space}
+use Rattle.script.proofs.space.entry_space.Reads.{Learnt as entry-space}
 use Rattle.script.proofs.words.end_from.Reads.{Learnt as end-from}
 use Rattle.script.proofs.words.word_at.Reads.{Learnt as word-at}
 use Rattle.script.proofs.words.word_count.Reads.{Learnt as word-count}
@@ -63,3 +64,6 @@ one-runs-space k a r r′ e e′ p q = one (p .0) (q .0)
 
 pub one-all-runs-space : OneOutcome all-runs-space (λ r e. r)
 one-all-runs-space k a r r′ e e′ p q = one (p .0) (q .0)
+
+pub one-entry-space : OneOutcome entry-space (λ r e. r)
+one-entry-space k a r r′ e e′ p q = one (p .0) (q .0)

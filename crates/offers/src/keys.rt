@@ -99,7 +99,7 @@ pub(crate) fn key_after(i: usize, out: &mut [u8]) -> Key {
     if let Key::Bad = key {
         wrong(
             b"offers",
-            b"a backslash in a key is \\\\ or \\xNN",
+            b"a backslash in a key is \\\\, or \\x and two of 0-9a-f",
             &space[..n],
         );
     }

@@ -17,7 +17,7 @@ use desk::say;
 use flash::part::part_of;
 use libc::STDOUT_FILENO;
 use run::bound::Bound;
-use script::space::line_space;
+use script::space::entry_space;
 use types::config::FILE_COUNT;
 use types::config::MAX_KEY_SIZE;
 use types::config::MAX_VALUE_SIZE;
@@ -74,7 +74,7 @@ fn say_next_refused(c: Choice, runs: &[u8], ends: &[usize], cursor: Cursor, why:
 }
 
 fn print(key: &[u8], value: &[u8]) -> bool {
-    let mut out = line_space();
+    let mut out = entry_space();
     let n = line_of(key, value, &mut out);
     io::write_all(STDOUT_FILENO, part_of(&out, 0, n))
 }
@@ -96,10 +96,10 @@ fn show(c: Choice, key: &[u8], value: &[u8]) -> Way {
         return Way::On;
     }
     if print(key, value) {
-        Way::On
-    } else {
-        Way::Stop
+        return Way::On;
     }
+    os::fail(b"offers: standard output");
+    Way::Stop
 }
 
 // One entry.

@@ -7,6 +7,7 @@ use page::chunk::Step;
 use page::chunk::checked_at;
 use page::header::check_header;
 use page::header::page_header_fine;
+use page::walk::all_erased;
 use types::config::ERASE_VALUE;
 use types::config::MAX_HEADER_SIZE;
 use types::config::MAX_PAGE_COUNT;
@@ -64,15 +65,6 @@ fn walked(page: &[u8], start: usize) -> Walk {
     }
 }
 
-fn is_erased(bytes: &[u8]) -> bool {
-    for i in 0..bytes.len() {
-        if bytes[i] != ERASE_VALUE {
-            return false;
-        }
-    }
-    true
-}
-
 fn text(bytes: &[u8]) {
     io::write_all(STDOUT_FILENO, bytes);
 }
@@ -81,7 +73,12 @@ fn number(n: usize) {
     io::print_decimal(STDOUT_FILENO, n as u64);
 }
 
-fn say_walk(page: &[u8], w: Walk) {
+// The end of a line, and whether it could be written.
+fn line_end(bytes: &[u8]) -> bool {
+    io::write_all(STDOUT_FILENO, bytes)
+}
+
+fn say_walk(page: &[u8], w: Walk) -> bool {
     text(b"chunks ");
     number(w.chunks);
     text(b", bytes ");
@@ -90,35 +87,38 @@ fn say_walk(page: &[u8], w: Walk) {
     if w.refused {
         text(b"Corrupted (1) at ");
         number(w.at);
-        text(b"\n");
-        return;
+        return line_end(b"\n");
     }
     text(b"end at ");
     number(w.at);
-    if is_erased(part_of(page, w.at, PAGE_SIZE)) {
-        text(b"\n");
-    } else {
-        text(b", not erased behind it\n");
+    if all_erased(part_of(page, w.at, PAGE_SIZE), ERASE_VALUE) {
+        return line_end(b"\n");
     }
+    line_end(b", not erased behind it\n")
 }
 
-fn say_page(flash: &[u8], magic: u32, id: PageID, h: usize) {
+fn say_page(flash: &[u8], magic: u32, id: PageID, h: usize) -> bool {
     let page = page_of(flash, id);
     text(b"page ");
     number(id.index());
     text(b": ");
-    if is_erased(page) {
-        text(b"erased\n");
-        return;
+    if all_erased(page, ERASE_VALUE) {
+        return line_end(b"erased\n");
     }
-    if page_header_fine(page, magic, id, h) {
-        say_walk(
-            page,
-            walked(page, PAGE_HEADER_SIZE + least(h, MAX_HEADER_SIZE)),
-        );
-    } else {
-        text(b"Corrupted (1) in its header\n");
+    if !page_header_fine(page, magic, id, h) {
+        return line_end(b"Corrupted (1) in its header\n");
     }
+    say_walk(
+        page,
+        walked(page, PAGE_HEADER_SIZE + least(h, MAX_HEADER_SIZE)),
+    )
+}
+
+fn say_page_at(flash: &[u8], magic: u32, i: usize, h: usize) -> bool {
+    if i < MAX_PAGE_COUNT {
+        return say_page(flash, magic, PageID(i as u16), h);
+    }
+    true
 }
 
 pub(crate) fn list(flash: &[u8], magic: u32, h: usize) {
@@ -129,8 +129,9 @@ pub(crate) fn list(flash: &[u8], magic: u32, h: usize) {
     }
     let count = least(flash.len() / PAGE_SIZE, MAX_PAGE_COUNT);
     for i in 0..count {
-        if i < MAX_PAGE_COUNT {
-            say_page(flash, magic, PageID(i as u16), h);
+        if !say_page_at(flash, magic, i, h) {
+            os::fail(b"pages: standard output");
+            return;
         }
     }
 }

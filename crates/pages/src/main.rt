@@ -67,7 +67,7 @@ fn main() {
     let Word32::Word(magic) = magic_at(2) else {
         wrong(
             b"pages",
-            b"the magic is not eight hex digits",
+            b"the magic is not eight of 0-9a-f",
             b"the second argument",
         );
         return;

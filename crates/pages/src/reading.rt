@@ -51,7 +51,13 @@ fn read_chunk(r: PageReader, flash: &[u8]) -> Step {
     let behind = passage.reader;
     match answer {
         Count::Bytes(n) => {
-            io::write_all(STDOUT_FILENO, part_of(&space, 0, n));
+            if !io::write_all(STDOUT_FILENO, part_of(&space, 0, n)) {
+                os::fail(b"pages: standard output");
+                return Step {
+                    goes_on: false,
+                    reader: behind,
+                };
+            }
             Step {
                 goes_on: !is_over(behind, flash),
                 reader: behind,

@@ -50,3 +50,11 @@ pub fn all_runs_space() -> [u8; 1114112]
 {
     [0; 1114112]
 }
+
+// Room for the line of an entry whose every byte is spelled in four.
+pub fn entry_space() -> [u8; 4354]
+    ensures answers { λ r. ⌜ r ≡ blank 0 4354 ⌝ }
+    ensures { λ r. ⌜ 4354 ≡ length r ⌝ }
+{
+    [0; 4354]
+}

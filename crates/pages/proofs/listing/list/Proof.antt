@@ -6,10 +6,10 @@ use Rattle.pages.proofs.listing.list.Statement.{statement}
 use Rattle.pages.proofs.listing.list.Tie as tie
 
 abbrev Inv-loop : tie.InvT-loop
-Inv-loop flash magic h count i₀ i = i ≤ count
+Inv-loop flash magic h count i₀ t8 i = i ≤ count
 
 abbrev μ-loop : tie.MeasureT-loop
-μ-loop flash magic h count i₀ i = count - i
+μ-loop flash magic h count i₀ t8 i = count - i
 
 check-header-requires : tie.Need-check-header-requires Inv-loop μ-loop
 check-header-requires c κs = search needs
@@ -38,11 +38,17 @@ least-requires c κs = search needs
 loop-holds : tie.Need-loop-holds Inv-loop μ-loop
 loop-holds c = omega arith
 
-cast-t16 : tie.Need-cast-t16 Inv-loop μ-loop
-cast-t16 c = omega arith
+say-page-at-requires : tie.Need-say-page-at-requires Inv-loop μ-loop
+say-page-at-requires c κs = search needs
 
-say-page-requires : tie.Need-say-page-requires Inv-loop μ-loop
-say-page-requires c κs = search needs
+slice-aggregate-fail : tie.Need-slice-aggregate-fail Inv-loop μ-loop
+slice-aggregate-fail c = search needs
+
+fail-requires : tie.Need-fail-requires Inv-loop μ-loop
+fail-requires c κs = search needs
+
+returns-2 : tie.Need-returns-2 Inv-loop μ-loop
+returns-2 c = search needs
 
 add-i : tie.Need-add-i Inv-loop μ-loop
 add-i c = omega arith
@@ -53,8 +59,8 @@ loop-less c = omega arith
 loop-again : tie.Need-loop-again Inv-loop μ-loop
 loop-again c = omega arith
 
-returns-2 : tie.Need-returns-2 Inv-loop μ-loop
-returns-2 c = search needs
+returns-3 : tie.Need-returns-3 Inv-loop μ-loop
+returns-3 c = search needs
 
 pub list-spec : {M : Type 1} → statement M
 list-spec =
@@ -71,9 +77,11 @@ list-spec =
     enum-told
     least-requires
     loop-holds
-    cast-t16
-    say-page-requires
+    say-page-at-requires
+    slice-aggregate-fail
+    fail-requires
+    returns-2
     add-i
     loop-less
     loop-again
-    returns-2)
+    returns-3)

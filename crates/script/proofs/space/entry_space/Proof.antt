@@ -1,0 +1,13 @@
+-- `script::space::entry_space` meets its contract. Assumes nothing.
+use mathlib.Core.Path.{refl, sym}
+use Rattle.flash.specs.Patch.{blank}
+use Rattle.flash.proofs.PatchLaws.{length-blank}
+use Rattle.script.proofs.space.entry_space.Statement.{statement}
+use Rattle.script.proofs.space.entry_space.Tie as tie
+
+returns : tie.Need-returns
+unfolding blank
+returns c = (refl, sym (length-blank 0 4354))
+
+pub entry-space-spec : {M : Type 1} → statement M
+entry-space-spec = tie.close (tie.spec returns)
