@@ -69,9 +69,13 @@ fn hold(seed: &str, calls: &str, part: &str, program: &[&str]) {
     let mut compared = Compared::default();
     match compare::compare(&program, seed, calls, part, &mut compared) {
         Ok(None) => {
-            let Compared { calls, by_the_original } = compared;
+            let Compared {
+                lines,
+                calls,
+                by_the_original,
+            } = compared;
             println!(
-                "{calls} calls compared, no difference; the original answered {by_the_original} of them by itself"
+                "{lines} lines compared, no difference; {calls} are calls of the original, which answered {by_the_original} of them by itself"
             );
         }
         Ok(Some(Difference { script, ours, theirs })) => {
@@ -79,8 +83,8 @@ fn hold(seed: &str, calls: &str, part: &str, program: &[&str]) {
             println!("# the oracle: {ours}");
             println!("# {}: {theirs}", program.words.join(" "));
             stop(&format!(
-                "oracle: a difference after {} calls without one",
-                compared.calls
+                "oracle: a difference after {} lines without one",
+                compared.lines
             ))
         }
         Err(why) => stop(&format!("oracle: {why}")),

@@ -14,7 +14,14 @@ fn the_same_answers_show_no_difference() {
     let output = compare("rules", "all");
     let text = String::from_utf8(output.stdout).unwrap();
     assert!(output.status.success(), "{text}");
-    assert!(text.starts_with("9000 calls compared, no difference"), "{text}");
+    let words: Vec<&str> = text.split(' ').collect();
+    let (lines, calls, own): (usize, usize, usize) = (
+        words[0].parse().unwrap(),
+        words[5].parse().unwrap(),
+        words[13].parse().unwrap(),
+    );
+    assert!(own <= calls && 9000 <= calls && calls < lines, "{text}");
+    assert!(text.contains(" no difference;"), "{text}");
 }
 
 /// Each part has a departure that some seed meets, and it comes down to a handful of calls.

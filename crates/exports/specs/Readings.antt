@@ -1,4 +1,4 @@
--- A page, opened and read to its end by the reader's calls, into one buffer. Assumes nothing.
+-- A page, opened and read by the reader's calls into one buffer, up to a read that answers 0 or is refused. Assumes nothing.
 use mathlib.Core.Bool.{cond, true, false, not}
 use mathlib.Core.List.{List, _++_}
 use Prim.Native.Nat.{ℕ, zero, suc, _+_, min}

@@ -1,4 +1,4 @@
-// A page, read to its end.
+// A page, read to its end or to its first empty chunk, where a read answers 0 too.
 use crate::telling::told;
 use reader::answers::Count;
 use reader::answers::Outcome;
@@ -83,7 +83,7 @@ fn reading_at(reader: PageReader, answer: Outcome) -> Reading
     }
 }
 
-// Opens a page and reads it to its end, or as far as there is room. What was put, and why it was refused.
+// Opens a page and reads it to its end or its first empty chunk, or as far as there is room. What was put, and why it was refused.
 #[no_mangle]
 pub extern "C" fn puffcradle_read_page(
     flash: &[u8],
