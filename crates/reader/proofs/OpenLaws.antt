@@ -17,11 +17,12 @@ use Rattle.flash.specs.Patch.{over}
 use Rattle.flash.proofs.GeometryLaws.{length-page}
 use Rattle.page.specs.Chunks.{payloadAt, checkedAt}
 use Rattle.page.specs.Headers.{headerOf, pageHeaderFine}
-use Rattle.reader.specs.Calls.{readHeader, readHeaderBytes, openPage, openBytes, rehydrateFrom}
+use Rattle.reader.specs.Calls.{readHeader, filled, readHeaderBytes, openPage, openBytes, rehydrateFrom}
 use Rattle.reader.specs.Checks.{openVerdict, readerVerdict}
 use Rattle.reader.specs.Moves.{arriving}
 use Rattle.reader.specs.States.{unread, restored}
 use Rattle.reader.specs.declared.answers.Opening.{Opening}
+use Rattle.reader.specs.declared.answers.Outcome.{Outcome}
 use Rattle.reader.specs.declared.answers.Outcome.the-variants as outcome
 use Rattle.reader.specs.declared.moves.Arrived.the-variants.{At, Corrupted}
 use Rattle.reader.specs.declared.dehydrated.DehydratedPageReader.{DehydratedPageReader}
@@ -55,7 +56,7 @@ module _ (flash : List ℕ) (magic : ℕ) (page : PageID) (header : List ℕ) wh
 
     pub open-kept : (r : PageReader) → openPage r flash magic page (length header) .answer ≡ outcome.Refused w → header ≡ openBytes r flash magic page header
     unfolding openBytes
-    open-kept r e = rw e
+    open-kept r e = sym (ap (λ (o : Outcome). filled o (headerOf (pageOf (page .0) flash) (length header)) header) e)
 
   pub read-header-filled : readHeader flash magic page (length header) ≡ outcome.Done
       → headerOf (pageOf (page .0) flash) (length header) ≡ readHeaderBytes flash magic page header
@@ -65,7 +66,7 @@ module _ (flash : List ℕ) (magic : ℕ) (page : PageID) (header : List ℕ) wh
   pub open-filled : (r : PageReader) → openPage r flash magic page (length header) .answer ≡ outcome.Done
       → headerOf (pageOf (page .0) flash) (length header) ≡ openBytes r flash magic page header
   unfolding openBytes
-  open-filled r e = rw e
+  open-filled r e = sym (ap (λ (o : Outcome). filled o (headerOf (pageOf (page .0) flash) (length header)) header) e)
 
   -- ---- each way: the answer with the reader, and the buffer
 
