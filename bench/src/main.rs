@@ -133,7 +133,7 @@ fn main() {
 
     let payload = inputs::payload();
     let mut sums = vec![
-        side("the original", || ours::crc32(black_box(&payload)).into()),
+        side("the library", || ours::crc32(black_box(&payload)).into()),
         side("the original", || theirs::crc32(black_box(&payload)).into()),
     ];
     #[cfg(zlib)]
@@ -145,7 +145,7 @@ fn main() {
     let mut flash = vec![0; 4 * 4096];
     let mut memory = theirs::Memory(flash.clone());
     let sides = vec![
-        side("the original", || {
+        side("the library", || {
             let told = ours::write_page(black_box(&mut flash), MAGICS[0], PAGE, &[], &payload, PIECE, STORES);
             told + u64::from(ours::crc32(&flash[4096..4096 + 64]))
         }),
@@ -182,7 +182,7 @@ fn main() {
     }
 
     let sides = vec![
-        side("the original", || ours::alloc_cycle(black_box(256), black_box(77))),
+        side("the library", || ours::alloc_cycle(black_box(256), black_box(77))),
         side("the original", || theirs::alloc_cycle(black_box(256), black_box(77))),
     ];
     measure("256 pages allocated and freed", 100, rounds, sides);
