@@ -168,7 +168,7 @@ fn main() {
     let mut reader = PageReader::new();
     let (mut out, mut out2) = ([0; 5000], [0; 5000]);
     let sides = vec![
-        side("the original", || {
+        side("the library", || {
             ours::read_page(black_box(&flash), MAGICS[0], PAGE, &mut [], &mut out)
         }),
         side("the original", || {
@@ -201,7 +201,7 @@ fn main() {
     let (mut key, mut value) = ([0; 64], [0; 1024]);
     let (mut key2, mut value2) = ([0; 64], [0; 1024]);
     let sides = vec![
-        side("the original", || {
+        side("the library", || {
             ours::merge(black_box(&bytes), &ends, usize::MAX, &mut key, &mut value)
         }),
         side("the original", || {
