@@ -1,6 +1,6 @@
 -- No call changes a byte of another page, nor any byte that none of its operations covers, nor the flash's length. The calls of a
--- writer that store are write, commit and write_header, and each leaves the flash as `endedFlash` says; the flash's own store_if and
--- erase_if leave it as `allowed` says. No other call is lent the flash to change it. Assumes nothing.
+-- writer that store are write, commit and write_header, each a duty that leaves the flash as `leaves` says; the flash's own store_if
+-- and erase_if leave it as `allowed` says. No other call is lent the flash to change it. Assumes nothing.
 use mathlib.Core.Path.{_≡_, refl, ap, _∙_}
 use mathlib.Core.List.{List, [], _∷_}
 use mathlib.Core.Logic.{_⊎_, ⊎-elim}
@@ -12,8 +12,8 @@ use Rattle.flash.specs.Geometry.{pageStart, pageOf}
 use Rattle.flash.specs.Operations.{Op, made, applied, allowed}
 use Rattle.flash.proofs.PageLaws.{opAt, opBytes, made-patch, length-applied, other-page}
 use Rattle.flash.proofs.PatchLaws.{patch-below, patch-above}
-use Rattle.writer.specs.Calls.{madeOf}
-use Rattle.writer.specs.Outcomes.{endedFlash}
+use Rattle.writer.specs.Duties.{Duty, leaves, makes}
+use Rattle.writer.specs.Outcomes.{endedFlash, endedOps}
 use Rattle.writer.specs.declared.page_writer.PageWriter.{PageWriter}
 
 -- byte i of the flash lies before or behind what each operation puts on the page that starts at base
@@ -44,7 +44,10 @@ operations-elsewhere p left ops xs = record {
   long = length-applied (pageStart p) (take left ops) xs;
 }
 
--- ELSEWHERE: a call of a writer that checks so and owes these operations
-pub elsewhere : (v : Verdict) (ops : List Op) (w : PageWriter) (left : ℕ) (xs : List ℕ) → Elsewhere (w .page .0) (madeOf v ops left) xs (endedFlash v ops w left xs)
-elsewhere (Refused why) ops w left xs = record { other-pages = λ q other. refl; uncovered = λ i d u. refl; long = refl }
-elsewhere Fine ops w left xs = operations-elsewhere (w .page .0) left ops xs
+-- ELSEWHERE: any call of a writer
+pub elsewhere : (d : Duty) (w : PageWriter) (left : ℕ) (xs : List ℕ) → Elsewhere (w .page .0) (makes d left) xs (leaves d w left xs)
+elsewhere d w left xs = by (d .verdict) (d .ops)
+  where
+    by : (v : Verdict) (ops : List Op) → Elsewhere (w .page .0) (endedOps v ops left) xs (endedFlash v ops w left xs)
+    by (Refused why) ops = record { other-pages = λ q other. refl; uncovered = λ i d u. refl; long = refl }
+    by Fine ops = operations-elsewhere (w .page .0) left ops xs

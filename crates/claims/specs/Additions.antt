@@ -8,11 +8,9 @@ use lib.ListN.{length}
 use Rattle.types.specs.declared.page_id.PageID.{PageID}
 use Rattle.flash.specs.Operations.{Op}
 use Rattle.writer.specs.Commits.{commitOps}
+use Rattle.writer.specs.Duties.{writeDuty, commitDuty, handsBack, leaves}
 use Rattle.writer.specs.Openings.{appended}
-use Rattle.writer.specs.Outcomes.{ended, endedFlash}
-use Rattle.writer.specs.Verdicts.{writerVerdict}
 use Rattle.writer.specs.Writes.{takenOf, grown, isFull, writeOps, written}
-use Rattle.writer.specs.declared.answers.Ended.{Ended}
 use Rattle.writer.specs.declared.answers.Opening.{Opening}
 use Rattle.writer.specs.declared.answers.Opening.the-variants as opening
 use Rattle.writer.specs.declared.answers.Outcome.{Outcome}
@@ -20,17 +18,6 @@ use Rattle.writer.specs.declared.answers.Outcome.the-variants.{Done, Refused}
 use Rattle.writer.specs.declared.page_writer.PageWriter.{PageWriter}
 
 -- ---- the calls
-
--- what a write hands back, and the flash after it
-abbrev pub wrote : ℕ → PageWriter → List ℕ → ℕ → List ℕ → Ended
-wrote e w bytes left xs = ended (writerVerdict (length xs) w) (writeOps e w bytes) (written w bytes) w left
-
-abbrev pub wroteFlash : ℕ → PageWriter → List ℕ → ℕ → List ℕ → List ℕ
-wroteFlash e w bytes left xs = endedFlash (writerVerdict (length xs) w) (writeOps e w bytes) w left xs
-
--- the flash after a commit
-abbrev pub commitFlash : ℕ → PageWriter → ℕ → List ℕ → List ℕ
-commitFlash e w left xs = endedFlash (writerVerdict (length xs) w) (commitOps e w) w left xs
 
 -- whether a write of these bytes fills the chunk, and so commits it
 abbrev pub fills : PageWriter → List ℕ → Bool
@@ -43,12 +30,12 @@ goOn (Refused why) further stopped = stopped
 
 -- the flash after writes of the pieces and a commit
 unfoldable pub afterWrites : ℕ → List (List ℕ) → PageWriter → ℕ → List ℕ → List ℕ
-afterWrites e [] w left xs = commitFlash e w left xs
+afterWrites e [] w left xs = leaves (commitDuty e xs w) w left xs
 afterWrites e (bytes ∷ pieces) w left xs =
-    goOn (wrote e w bytes left xs .answer)
-    (cond (fills w bytes) (wroteFlash e w bytes left xs)
-    (afterWrites e pieces (wrote e w bytes left xs .writer) (wrote e w bytes left xs .left) (wroteFlash e w bytes left xs)))
-    (wroteFlash e w bytes left xs)
+    let d = writeDuty e xs w bytes in
+    let ended = handsBack d w left in
+    let ys = leaves d w left xs in
+    goOn (ended .answer) (cond (fills w bytes) ys (afterWrites e pieces (ended .writer) (ended .left) ys)) ys
 
 abbrev pub opened : Opening → List ℕ → List ℕ → List ℕ
 opened opening.Open further stopped = further

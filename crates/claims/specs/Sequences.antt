@@ -2,14 +2,8 @@
 -- the definitions that the calls promise. Assumes nothing.
 use mathlib.Core.List.{List, [], _∷_, _++_}
 use Prim.Native.Nat.{ℕ}
-use lib.ListN.{length}
 use Rattle.flash.specs.Operations.{Op}
-use Rattle.writer.specs.Calls.{madeOf}
-use Rattle.writer.specs.Commits.{commitOps, committed}
-use Rattle.writer.specs.Outcomes.{ended, endedFlash}
-use Rattle.writer.specs.Verdicts.{writerVerdict}
-use Rattle.writer.specs.Writes.{writeOps, written}
-use Rattle.writer.specs.declared.answers.Ended.{Ended}
+use Rattle.writer.specs.Duties.{Duty, writeDuty, commitDuty, handsBack, leaves, makes}
 use Rattle.writer.specs.declared.answers.Outcome.{Outcome}
 use Rattle.writer.specs.declared.answers.Outcome.the-variants.{Done, Refused}
 use Rattle.writer.specs.declared.page_writer.PageWriter.{PageWriter}
@@ -18,24 +12,10 @@ pub data AddCall : Type 0 where
   writes : List ℕ → AddCall
   commits : AddCall
 
--- the operations that a call owes, and the writer once all are made
-abbrev pub owed : ℕ → AddCall → PageWriter → List Op
-owed e (writes bytes) w = writeOps e w bytes
-owed e commits w = commitOps e w
-
-abbrev pub goesOn : AddCall → PageWriter → PageWriter
-goesOn (writes bytes) w = written w bytes
-goesOn commits w = committed w
-
--- those that it makes, what it hands back, and the flash after it
-abbrev pub callMakes : ℕ → AddCall → PageWriter → ℕ → List ℕ → List Op
-callMakes e call w left xs = madeOf (writerVerdict (length xs) w) (owed e call w) left
-
-abbrev pub callEnds : ℕ → AddCall → PageWriter → ℕ → List ℕ → Ended
-callEnds e call w left xs = ended (writerVerdict (length xs) w) (owed e call w) (goesOn call w) w left
-
-abbrev pub callFlash : ℕ → AddCall → PageWriter → ℕ → List ℕ → List ℕ
-callFlash e call w left xs = endedFlash (writerVerdict (length xs) w) (owed e call w) w left xs
+-- what a call of a writer w owes on a flash
+abbrev pub dutyOf : ℕ → AddCall → List ℕ → PageWriter → Duty
+dutyOf e (writes bytes) flash w = writeDuty e flash w bytes
+dutyOf e commits flash w = commitDuty e flash w
 
 -- all that calls make, up to the first that is refused
 abbrev pub unlessRefused : Outcome → List Op → List Op
@@ -45,5 +25,6 @@ unlessRefused (Refused why) further = []
 unfoldable pub callsMake : ℕ → List AddCall → PageWriter → ℕ → List ℕ → List Op
 callsMake e [] w left xs = []
 callsMake e (call ∷ calls) w left xs =
-    callMakes e call w left xs
-    ++ unlessRefused (callEnds e call w left xs .answer) (callsMake e calls (callEnds e call w left xs .writer) (callEnds e call w left xs .left) (callFlash e call w left xs))
+    let d = dutyOf e call xs w in
+    let ended = handsBack d w left in
+    makes d left ++ unlessRefused (ended .answer) (callsMake e calls (ended .writer) (ended .left) (leaves d w left xs))

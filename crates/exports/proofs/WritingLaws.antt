@@ -10,11 +10,12 @@ use borrow.Author.Tests.{eq-eqb, ne-eqb}
 use Rattle.types.specs.Build.{eraseValue}
 use Rattle.types.specs.Refusals.{numberOf}
 use Rattle.types.specs.declared.refusal.Refusal.{Refusal}
+use Rattle.writer.specs.Answers.{outcomeTold}
+use Rattle.writer.specs.Duties.{Duty, writeDuty, headingDuty, handsBack, leaves}
 use Rattle.writer.specs.Openings.{opened}
-use Rattle.writer.specs.Outcomes.{ended, took}
+use Rattle.writer.specs.Outcomes.{took, wrote}
 use Rattle.writer.specs.States.{newWriter}
-use Rattle.writer.specs.Verdicts.{writerVerdict}
-use Rattle.writer.specs.Writes.{takes, writeOps, written}
+use Rattle.writer.specs.Writes.{takes}
 use Rattle.writer.specs.declared.answers.Ended.{Ended}
 use Rattle.writer.specs.declared.answers.Opened.{Opened}
 use Rattle.writer.specs.declared.answers.Opening.{Opening}
@@ -26,12 +27,12 @@ use Rattle.writer.specs.declared.answers.Taking.the-variants as taking
 use Rattle.writer.specs.declared.answers.Wrote.{Wrote}
 use Rattle.writer.specs.declared.page_writer.PageWriter.{PageWriter}
 use Rattle.exports.specs.Telling.{told}
-use Rattle.exports.specs.Writings.{WriteState, stateOf, headingOf, headingFlash, writeOf, writeFlash, commitOf, commitFlash, outcomeNumber, afterHeader, begunAt, begunBy, begun, Fits, afterTaking, afterWrite, writeFrom, writeOne, writeOn, writeAll, finished, finishedFlash, writePage}
+use Rattle.exports.specs.Writings.{WriteState, stateOf, afterHeader, begunAt, begunBy, begun, Fits, afterTaking, afterWrite, writeBytes, writeFrom, writeOne, writeOn, writeAll, commitOf, finished, finishedFlash, writePage}
 use Rattle.exports.specs.declared.writing.Writing.{Writing}
 
 -- ---- the start
 
-pub header-stored : (e : Ended) (n : ℕ) → n ≡ outcomeNumber (e .answer)
+pub header-stored : (e : Ended) (n : ℕ) → n ≡ outcomeTold (e .answer) .number
     → _≡_ {A = Writing} (record { writer = e .writer; left = e .left; taken = 0; on = eqb n 0; why = n }) (afterHeader e)
 header-stored e n number = ap {B = Writing} (λ (k : ℕ). record { writer = e .writer; left = e .left; taken = 0; on = eqb k 0; why = k }) number
 
@@ -55,13 +56,16 @@ module _ (flash : List ℕ) (magic page : ℕ) (header : List ℕ) (left : ℕ) 
       (ap (λ (k : ℕ). stateOf (record { writer = o .writer; left = o .left; taken = 0; on = false; why = k }) flash) number
       ∙ ap (λ (a : Opening). begunAt a (o .writer) (o .left) flash magic header) (sym known))
 
-  pub begun-open : (e : Ended) (w : Writing) (flash′ : List ℕ) → o .answer ≡ opening.Open → e ≡ headingOf flash (o .writer) magic header (o .left)
-      → flash′ ≡ headingFlash flash (o .writer) magic header (o .left) → w ≡ afterHeader e
+  abbrev heading : Duty
+  heading = headingDuty eraseValue flash (o .writer) magic header
+
+  pub begun-open : (e : Ended) (w : Writing) (flash′ : List ℕ) → o .answer ≡ opening.Open → e ≡ handsBack heading (o .writer) (o .left)
+      → flash′ ≡ leaves heading (o .writer) (o .left) flash → w ≡ afterHeader e
       → (w ≡ begun flash magic page header left .writing) × (flash′ ≡ begun flash magic page header left .flash)
   begun-open e w flash′ known heads stores after =
       both w flash′
       (ap (λ (x : Writing). stateOf x flash′) (after ∙ ap afterHeader heads)
-      ∙ ap (λ (x : List ℕ). stateOf (afterHeader (headingOf flash (o .writer) magic header (o .left))) x) stores
+      ∙ ap (λ (x : List ℕ). stateOf (afterHeader (handsBack heading (o .writer) (o .left))) x) stores
       ∙ ap (λ (a : Opening). begunAt a (o .writer) (o .left) flash magic header) (sym known))
 
 -- ---- one write
@@ -85,25 +89,29 @@ took-fits from n (outcome.Refused why) fits = tt
 
 module _ (payload : List ℕ) (piece : ℕ) (flash : List ℕ) (w : Writing) (from : ℕ) (bytes : List ℕ) (at : from ≡ min (w .taken) (length payload))
     (part : bytes ≡ take piece (drop from payload)) where
+  abbrev duty : Duty
+  duty = writeDuty eraseValue flash (w .writer) bytes
+
+  abbrev wroteBytes : Wrote
+  wroteBytes = wrote (takes (length bytes) (w .writer)) (handsBack duty (w .writer) (w .left))
+
   -- what was taken is within the payload
-  pub write-fits : (wr : Wrote) → wr ≡ writeOf flash (w .writer) bytes (w .left) → length payload < 2 ^ 64 → Fits from (wr .answer)
+  pub write-fits : (wr : Wrote) → wr ≡ wroteBytes → length payload < 2 ^ 64 → Fits from (wr .answer)
   write-fits wr called small =
       let l : length bytes ≤ length payload - from = rw part (simp (length-take, length-drop) (omega arith)) in
       subst (λ (x : Wrote). Fits from (x .answer)) (sym called)
-      (took-fits from (takes (length bytes) (w .writer))
-      (ended (writerVerdict (length flash) (w .writer)) (writeOps eraseValue (w .writer) bytes) (written (w .writer) bytes) (w .writer) (w .left) .answer)
-      (omega arith))
+      (took-fits from (takes (length bytes) (w .writer)) (handsBack duty (w .writer) (w .left) .answer) (omega arith))
 
-  pub write-step : (wr : Wrote) (flash′ : List ℕ) (w′ : Writing) → wr ≡ writeOf flash (w .writer) bytes (w .left)
-      → flash′ ≡ writeFlash flash (w .writer) bytes (w .left) → w′ ≡ afterWrite from wr
+  pub write-step : (wr : Wrote) (flash′ : List ℕ) (w′ : Writing) → wr ≡ wroteBytes → flash′ ≡ leaves duty (w .writer) (w .left) flash → w′ ≡ afterWrite from wr
       → (w′ ≡ writeOne payload piece (stateOf w flash) .writing) × (flash′ ≡ writeOne payload piece (stateOf w flash) .flash)
   unfolding writeOne
   write-step wr flash′ w′ called stores after = (
     after
-        ∙ ap (afterWrite from) (called ∙ ap (λ (b : List ℕ). writeOf flash (w .writer) b (w .left)) part)
+        ∙ ap (afterWrite from) called
+        ∙ ap (λ (b : List ℕ). writeBytes from b w flash .writing) part
         ∙ ap (λ (k : ℕ). writeFrom k payload piece (stateOf w flash) .writing) at,
     stores
-        ∙ ap (λ (b : List ℕ). writeFlash flash (w .writer) b (w .left)) part
+        ∙ ap (λ (b : List ℕ). writeBytes from b w flash .flash) part
         ∙ ap (λ (k : ℕ). writeFrom k payload piece (stateOf w flash) .flash) at,
   )
 
@@ -151,29 +159,34 @@ module _ (payload : List ℕ) (piece : ℕ) (whole : WriteState) (n : ℕ) (flas
 -- ---- the commit, and the job
 
 module _ (w : Writing) (flash : List ℕ) where
+  abbrev done : Ended
+  done = handsBack (commitOf (stateOf w flash)) (w .writer) (w .left)
+
+  abbrev behind : List ℕ
+  behind = leaves (commitOf (stateOf w flash)) (w .writer) (w .left) flash
+
+  -- by whether nothing was refused
+  abbrev tellsBy : Bool → ℕ
+  tellsBy b = cond b (told (outcomeTold (done .answer) .number) (w .taken)) (told (w .why) (w .taken))
+
+  abbrev leavesBy : Bool → List ℕ
+  leavesBy b = cond b behind flash
+
   pub finished-refused : (n : ℕ) → (w .why ≡ 0 → ⊥) → n ≡ told (w .why) (w .taken)
       → (n ≡ finished (stateOf w flash)) × (flash ≡ finishedFlash (stateOf w flash))
   unfolding finished finishedFlash
-  finished-refused n refused tells = (
-    tells
-        ∙ sym
-        (ap (λ (b : Bool). cond b (told (outcomeNumber (commitOf flash (w .writer) (w .left) .answer)) (w .taken)) (told (w .why) (w .taken)))
-        (ne-eqb (w .why) 0 refused)),
-    sym (ap (λ (b : Bool). cond b (commitFlash flash (w .writer) (w .left)) flash) (ne-eqb (w .why) 0 refused)),
-  )
+  finished-refused n refused tells =
+      let b : eqb (w .why) 0 ≡ false = ne-eqb (w .why) 0 refused in
+      (tells ∙ sym (ap tellsBy b), sym (ap leavesBy b))
 
-  pub finished-done : (e : Ended) (flash′ : List ℕ) (k n : ℕ) → w .why ≡ 0 → e ≡ commitOf flash (w .writer) (w .left)
-      → flash′ ≡ commitFlash flash (w .writer) (w .left) → k ≡ outcomeNumber (e .answer) → n ≡ told k (w .taken)
-      → (n ≡ finished (stateOf w flash)) × (flash′ ≡ finishedFlash (stateOf w flash))
+  pub finished-done : (e : Ended) (flash′ : List ℕ) (k n : ℕ) → w .why ≡ 0 → e ≡ done → flash′ ≡ behind → k ≡ outcomeTold (e .answer) .number
+      → n ≡ told k (w .taken) → (n ≡ finished (stateOf w flash)) × (flash′ ≡ finishedFlash (stateOf w flash))
   unfolding finished finishedFlash
-  finished-done e flash′ k n fine commits stores number tells = (
-    tells
-        ∙ ap (λ (x : ℕ). told x (w .taken)) (number ∙ ap (λ (x : Ended). outcomeNumber (x .answer)) commits)
-        ∙ sym
-        (ap (λ (b : Bool). cond b (told (outcomeNumber (commitOf flash (w .writer) (w .left) .answer)) (w .taken)) (told (w .why) (w .taken)))
-        (eq-eqb (w .why) 0 fine)),
-    stores ∙ sym (ap (λ (b : Bool). cond b (commitFlash flash (w .writer) (w .left)) flash) (eq-eqb (w .why) 0 fine)),
-  )
+  finished-done e flash′ k n fine commits stores number tells =
+      let b : eqb (w .why) 0 ≡ true = eq-eqb (w .why) 0 fine in (
+        tells ∙ ap (λ (x : ℕ). told x (w .taken)) (number ∙ ap (λ (x : Ended). outcomeTold (x .answer) .number) commits) ∙ sym (ap tellsBy b),
+        stores ∙ sym (ap leavesBy b),
+      )
 
 pub page-written : (flash : List ℕ) (magic page : ℕ) (header payload : List ℕ) (piece left : ℕ) (a b : Writing) (flash₁ flash₂ flash₃ : List ℕ) (n : ℕ)
     → (a ≡ begun flash magic page header left .writing) × (flash₁ ≡ begun flash magic page header left .flash)

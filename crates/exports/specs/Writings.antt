@@ -6,19 +6,16 @@ use lib.Dec.{eqb}
 use lib.ListN.{length, take, drop}
 use Rattle.types.specs.Build.{pageSize, eraseValue}
 use Rattle.types.specs.Refusals.{numberOf}
-use Rattle.writer.specs.Commits.{commitOps, committed}
-use Rattle.writer.specs.Headings.{headerOps, headed}
+use Rattle.writer.specs.Answers.{outcomeTold}
+use Rattle.writer.specs.Duties.{Duty, writeDuty, commitDuty, headingDuty, handsBack, leaves}
 use Rattle.writer.specs.Openings.{opened}
-use Rattle.writer.specs.Outcomes.{ended, endedFlash, wrote}
+use Rattle.writer.specs.Outcomes.{wrote}
 use Rattle.writer.specs.States.{newWriter}
-use Rattle.writer.specs.Verdicts.{headingVerdict, writerVerdict}
-use Rattle.writer.specs.Writes.{takes, writeOps, written}
+use Rattle.writer.specs.Writes.{takes}
 use Rattle.writer.specs.declared.answers.Ended.{Ended}
 use Rattle.writer.specs.declared.answers.Opened.{Opened}
 use Rattle.writer.specs.declared.answers.Opening.{Opening}
 use Rattle.writer.specs.declared.answers.Opening.the-variants as opening
-use Rattle.writer.specs.declared.answers.Outcome.{Outcome}
-use Rattle.writer.specs.declared.answers.Outcome.the-variants as outcome
 use Rattle.writer.specs.declared.answers.Taking.{Taking}
 use Rattle.writer.specs.declared.answers.Taking.the-variants as taking
 use Rattle.writer.specs.declared.answers.Wrote.{Wrote}
@@ -34,44 +31,24 @@ pub record WriteState : Type 0 where
 abbrev pub stateOf : Writing → List ℕ → WriteState
 stateOf w flash = record { writing = w; flash = flash }
 
--- ---- the writer's calls, with the flash behind each
-
-abbrev pub headingOf : List ℕ → PageWriter → ℕ → List ℕ → ℕ → Ended
-headingOf flash w magic header left =
-    ended (headingVerdict (length flash) w (length header)) (headerOps eraseValue w magic header) (headed w) w left
-
-abbrev pub headingFlash : List ℕ → PageWriter → ℕ → List ℕ → ℕ → List ℕ
-headingFlash flash w magic header left =
-    endedFlash (headingVerdict (length flash) w (length header)) (headerOps eraseValue w magic header) w left flash
-
-abbrev pub writeOf : List ℕ → PageWriter → List ℕ → ℕ → Wrote
-writeOf flash w bytes left =
-    wrote (takes (length bytes) w) (ended (writerVerdict (length flash) w) (writeOps eraseValue w bytes) (written w bytes) w left)
-
-abbrev pub writeFlash : List ℕ → PageWriter → List ℕ → ℕ → List ℕ
-writeFlash flash w bytes left = endedFlash (writerVerdict (length flash) w) (writeOps eraseValue w bytes) w left flash
-
-abbrev pub commitOf : List ℕ → PageWriter → ℕ → Ended
-commitOf flash w left = ended (writerVerdict (length flash) w) (commitOps eraseValue w) (committed w) w left
-
-abbrev pub commitFlash : List ℕ → PageWriter → ℕ → List ℕ
-commitFlash flash w left = endedFlash (writerVerdict (length flash) w) (commitOps eraseValue w) w left flash
-
 -- ---- the start
-
-abbrev pub outcomeNumber : Outcome → ℕ
-outcomeNumber outcome.Done = 0
-outcomeNumber (outcome.Refused why) = numberOf why
 
 -- with the page header stored, or refused
 abbrev pub afterHeader : Ended → Writing
 afterHeader e =
-    record { writer = e .writer; left = e .left; taken = 0; on = eqb (outcomeNumber (e .answer)) 0; why = outcomeNumber (e .answer) }
+    record {
+      writer = e .writer;
+      left = e .left;
+      taken = 0;
+      on = eqb (outcomeTold (e .answer) .number) 0;
+      why = outcomeTold (e .answer) .number;
+    }
 
 -- a writer that was opened stores the page header, a refused one is not used
 abbrev pub begunAt : Opening → PageWriter → ℕ → List ℕ → ℕ → List ℕ → WriteState
 begunAt opening.Open w left flash magic header =
-    record { writing = afterHeader (headingOf flash w magic header left); flash = headingFlash flash w magic header left }
+    let d = headingDuty eraseValue flash w magic header in
+    record { writing = afterHeader (handsBack d w left); flash = leaves d w left flash }
 begunAt (opening.Refused why) w left flash magic header =
     record { writing = record { writer = w; left = left; taken = 0; on = false; why = numberOf why }; flash = flash }
 
@@ -96,13 +73,17 @@ afterTaking from (taking.Refused why) w left = record { writer = w; left = left;
 abbrev pub afterWrite : ℕ → Wrote → Writing
 afterWrite from w = afterTaking from (w .answer) (w .writer) (w .left)
 
--- a write of the piece that starts there
-abbrev pub writeFrom : ℕ → List ℕ → ℕ → WriteState → WriteState
-writeFrom from payload piece s =
+-- a write of these bytes, behind so many that were taken, and of the piece that starts there
+abbrev pub writeBytes : ℕ → List ℕ → Writing → List ℕ → WriteState
+writeBytes from bytes w flash =
+    let d = writeDuty eraseValue flash (w .writer) bytes in
     record {
-      writing = afterWrite from (writeOf (s .flash) (s .writing .writer) (take piece (drop from payload)) (s .writing .left));
-      flash = writeFlash (s .flash) (s .writing .writer) (take piece (drop from payload)) (s .writing .left);
+      writing = afterWrite from (wrote (takes (length bytes) (w .writer)) (handsBack d (w .writer) (w .left)));
+      flash = leaves d (w .writer) (w .left) flash;
     }
+
+abbrev pub writeFrom : ℕ → List ℕ → ℕ → WriteState → WriteState
+writeFrom from payload piece s = writeBytes from (take piece (drop from payload)) (s .writing) (s .flash)
 
 unfoldable pub writeOne : List ℕ → ℕ → WriteState → WriteState
 writeOne payload piece s = writeFrom (min (s .writing .taken) (length payload)) payload piece s
@@ -118,14 +99,17 @@ writeAll payload piece s = writeOn (pageSize + 1) payload piece s
 
 -- ---- the commit, where nothing was refused
 
+abbrev pub commitOf : WriteState → Duty
+commitOf s = commitDuty eraseValue (s .flash) (s .writing .writer)
+
 unfoldable pub finished : WriteState → ℕ
 finished s =
     cond (eqb (s .writing .why) 0)
-    (told (outcomeNumber (commitOf (s .flash) (s .writing .writer) (s .writing .left) .answer)) (s .writing .taken))
+    (told (outcomeTold (handsBack (commitOf s) (s .writing .writer) (s .writing .left) .answer) .number) (s .writing .taken))
     (told (s .writing .why) (s .writing .taken))
 
 unfoldable pub finishedFlash : WriteState → List ℕ
-finishedFlash s = cond (eqb (s .writing .why) 0) (commitFlash (s .flash) (s .writing .writer) (s .writing .left)) (s .flash)
+finishedFlash s = cond (eqb (s .writing .why) 0) (leaves (commitOf s) (s .writing .writer) (s .writing .left) (s .flash)) (s .flash)
 
 -- ---- the job, up to the commit
 

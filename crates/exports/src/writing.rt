@@ -6,12 +6,11 @@ use types::num::least;
 use types::page_id::PageID;
 use writer::answers::Ended;
 use writer::answers::Opening;
-use writer::answers::Outcome;
 use writer::answers::Taking;
 use writer::answers::Wrote;
 use writer::page_writer::PageWriter;
 ghost use mathlib.Core.Path.{_≡_};
-ghost use Rattle.exports.specs.Writings.{Fits, stateOf, outcomeNumber, afterHeader, begun, afterWrite, writeOne, writeAll, finished, finishedFlash, writePage};
+ghost use Rattle.exports.specs.Writings.{Fits, stateOf, afterHeader, begun, afterWrite, writeOne, writeAll, finished, finishedFlash, writePage};
 
 // A writer on its way: the stores left, how many bytes it took, whether it goes on, and the number of the row that refused.
 pub struct Writing {
@@ -22,22 +21,13 @@ pub struct Writing {
     pub why: u8,
 }
 
-fn outcome_number(answer: Outcome) -> u8
-    ensures answers { λ r. ⌜ r ≡ outcomeNumber answer ⌝ }
-{
-    match answer {
-        Outcome::Done => 0,
-        Outcome::Refused(no) => no.number(),
-    }
-}
-
 // With the page header stored, or refused.
 fn after_header(e: Ended) -> Writing
     ensures answers { λ r. ⌜ r ≡ afterHeader e ⌝ }
 {
     let answer = e.answer;
     let writer = e.writer;
-    let no = outcome_number(answer);
+    let no = answer.number();
     Writing {
         writer,
         left: e.left,
@@ -131,7 +121,7 @@ fn finished(w: Writing, flash: &mut [u8]) -> u64
     let writer = w.writer;
     let done = writer.commit(flash, w.left);
     let answer = done.answer;
-    told(outcome_number(answer), w.taken)
+    told(answer.number(), w.taken)
 }
 
 // Opens a page to write it anew, stores its header, writes the payload in pieces and commits. What was taken, and why it was refused.

@@ -4,9 +4,8 @@ use mathlib.Core.Bool.{Bool, true, false, cond, not, _&&_}
 use mathlib.Core.List.{List, [], _++_}
 use Prim.Native.Nat.{ℕ}
 use lib.Dec.{eqb}
-use lib.ListN.{take-append-drop}
+use lib.ListN.{length, take-append-drop}
 use borrow.Author.Tests.{eq-eqb, ne-eqb}
-use Rattle.types.specs.declared.refusal.Verdict.{Verdict}
 use Rattle.types.specs.declared.refusal.Verdict.the-variants.{Fine}
 use Rattle.crc.specs.Register.{finished}
 use Rattle.flash.specs.Geometry.{pageStart}
@@ -14,8 +13,10 @@ use Rattle.flash.specs.Operations.{erase, store, opIf}
 use Rattle.flash.specs.declared.ops.Spent.{Spent}
 use Rattle.flash.proofs.OperationLaws.{Ran, ran-append}
 use Rattle.page.specs.Chunks.{chunkHeader}
-use Rattle.writer.specs.Commits.{inGroup, groupAt, lastGroup, sealOp, chunkOps, nextChunk, commitOps, committed}
+use Rattle.writer.specs.Commits.{inGroup, groupAt, lastGroup, sealOp, chunkOps, nextChunk}
+use Rattle.writer.specs.Duties.{commitDuty}
 use Rattle.writer.specs.Outcomes.{came}
+use Rattle.writer.specs.Verdicts.{writerVerdict}
 use Rattle.writer.specs.declared.answers.Ended.{Ended}
 use Rattle.writer.specs.declared.answers.Outcome.the-variants as outcome
 use Rattle.writer.specs.declared.page_writer.PageWriter.{PageWriter}
@@ -47,12 +48,13 @@ chunk-ran e left due w head v₀ v₁ v₂ v₃ x y z h p q r =
 
 -- ---- commit
 
-module _ (v : Verdict) (e : ℕ) (w : PageWriter) (left : ℕ) (xs : List ℕ) (fine : v ≡ Fine) where
-  pub commit-none : w .pending ≡ 0 → Ends v (commitOps e w) (committed w) w left xs (record { answer = outcome.Done; writer = w; left = left }) xs
-  commit-none z = rw (eq-eqb (w .pending) 0 z) (ends-none v w left xs fine)
+module _ (e : ℕ) (w : PageWriter) (left : ℕ) (xs : List ℕ) (fine : writerVerdict (length xs) w ≡ Fine) where
+  pub commit-none : w .pending ≡ 0 → Ends (commitDuty e xs w) w left xs (record { answer = outcome.Done; writer = w; left = left }) xs
+  commit-none z = rw (eq-eqb (w .pending) 0 z) (ends-none (writerVerdict (length xs) w) w left xs fine)
 
   pub commit-some : (r : Spent) (ys : List ℕ) (next : PageWriter) (out : Ended) → (w .pending ≡ 0 → ⊥)
       → Ran (pageStart (w .page .0)) left (cond true (chunkOps e w) []) xs r ys → next ≡ nextChunk w → out ≡ came r next w
-      → Ends v (commitOps e w) (committed w) w left xs out ys
+      → Ends (commitDuty e xs w) w left xs out ys
   commit-some r ys next out n ran f o =
-      rw (ne-eqb (w .pending) 0 n, o, f) (ends-ran v (chunkOps e w) (nextChunk w) w left xs r ys fine ran)
+      rw (ne-eqb (w .pending) 0 n, o, f)
+      (ends-ran (record { verdict = writerVerdict (length xs) w; ops = chunkOps e w; next = nextChunk w }) w left xs r ys fine ran)

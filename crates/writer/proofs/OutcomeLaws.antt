@@ -7,26 +7,27 @@ use Rattle.types.specs.declared.refusal.Refusal.{Refusal}
 use Rattle.types.specs.declared.refusal.Verdict.{Verdict}
 use Rattle.types.specs.declared.refusal.Verdict.the-variants.{Fine, Refused}
 use Rattle.flash.specs.Geometry.{pageStart}
-use Rattle.flash.specs.Operations.{Op}
 use Rattle.flash.specs.declared.ops.Spent.{Spent}
 use Rattle.flash.proofs.OperationLaws.{Ran, ran-none}
-use Rattle.writer.specs.Outcomes.{came, ended, endedFlash}
+use Rattle.writer.specs.Duties.{Duty, handsBack, leaves}
+use Rattle.writer.specs.Outcomes.{came}
 use Rattle.writer.specs.declared.answers.Ended.{Ended}
 use Rattle.writer.specs.declared.answers.Outcome.the-variants as outcome
 use Rattle.writer.specs.declared.page_writer.PageWriter.{PageWriter}
 
--- out is handed back and ys is the flash, as a call's definition says
-abbrev pub Ends : Verdict → List Op → PageWriter → PageWriter → ℕ → List ℕ → Ended → List ℕ → Type 0
-Ends v ops next w left xs out ys = (out ≡ ended v ops next w left) × (ys ≡ endedFlash v ops w left xs)
+-- out is handed back and ys is the flash, as a call's duty says
+abbrev pub Ends : Duty → PageWriter → ℕ → List ℕ → Ended → List ℕ → Type 0
+Ends d w left xs out ys = (out ≡ handsBack d w left) × (ys ≡ leaves d w left xs)
 
-module _ (v : Verdict) (ops : List Op) (next w : PageWriter) (left : ℕ) (xs : List ℕ) where
-  pub ends-refused : (why : Refusal) → v ≡ Refused why → Ends v ops next w left xs (record { answer = outcome.Refused why; writer = w; left = left }) xs
+module _ (d : Duty) (w : PageWriter) (left : ℕ) (xs : List ℕ) where
+  pub ends-refused : (why : Refusal) → d .verdict ≡ Refused why → Ends d w left xs (record { answer = outcome.Refused why; writer = w; left = left }) xs
   ends-refused why e = (rw e, rw e)
 
-  pub ends-ran : (r : Spent) (ys : List ℕ) → v ≡ Fine → Ran (pageStart (w .page .0)) left ops xs r ys → Ends v ops next w left xs (came r next w) ys
-  ends-ran r ys e ran = (ap (λ (s : Spent). came s next w) (ran .0) ∙ rw e, ran .1 ∙ rw e)
+  pub ends-ran : (r : Spent) (ys : List ℕ) → d .verdict ≡ Fine → Ran (pageStart (w .page .0)) left (d .ops) xs r ys → Ends d w left xs (came r (d .next) w) ys
+  ends-ran r ys e ran = (ap (λ (s : Spent). came s (d .next) w) (ran .0) ∙ rw e, ran .1 ∙ rw e)
 
 -- no operation is owed
 pub ends-none : (v : Verdict) (w : PageWriter) (left : ℕ) (xs : List ℕ) → v ≡ Fine
-    → Ends v [] w w left xs (record { answer = outcome.Done; writer = w; left = left }) xs
-ends-none v w left xs e = ends-ran v [] w w left xs (record { ok = true; left = left }) xs e (ran-none (pageStart (w .page .0)) left xs)
+    → Ends (record { verdict = v; ops = []; next = w }) w left xs (record { answer = outcome.Done; writer = w; left = left }) xs
+ends-none v w left xs e =
+    ends-ran (record { verdict = v; ops = []; next = w }) w left xs (record { ok = true; left = left }) xs e (ran-none (pageStart (w .page .0)) left xs)

@@ -1,33 +1,33 @@
 -- A state in range stays in range, whatever the call and whether or not it is refused, and opening gives one. Assumes nothing.
-use mathlib.Core.Path.{_≡_, refl, sym, ap, _∙_}
+use mathlib.Core.Path.{_≡_, refl, ap, _∙_}
 use mathlib.Core.Bool.{Bool, true, false, cond}
 use mathlib.Core.List.{List}
 use mathlib.Core.Logic.{_⊎_, inl, inr, ⊎-elim}
 use Prim.Native.Nat.{ℕ, _+_, _-_, _*_, _/_, _%_, _≤_, _<_, min}
 use native.Mathlib.Omega.{arith}
-use lib.Dec.{eqb, ltb}
 use lib.ListN.{length, drop, length-take}
-use borrow.Author.Tests.{eq-eqb, ne-eqb, eqb-true, eqb-false, ltb-true}
-use Rattle.types.specs.Build.{pageSize, align, maxPageCount, maxChunkSize}
+use borrow.Author.Tests.{eq-eqb, ne-eqb, eqb-true, ltb-true}
+use Rattle.types.specs.Build.{pageSize, align, maxPageCount}
 use Rattle.types.specs.declared.page_id.PageID.{PageID}
 use Rattle.types.specs.declared.refusal.Verdict.{Verdict}
 use Rattle.types.specs.declared.refusal.Verdict.the-variants as verdict
 use Rattle.types.proofs.TestLaws.{decided, eq-or-ne}
 use Rattle.flash.specs.Geometry.{flashFine, hasPage, pageCount, pageOf}
-use Rattle.flash.specs.Operations.{Op, spent}
+use Rattle.flash.specs.Operations.{spent}
 use Rattle.flash.proofs.GeometryLaws.{fine-whole}
 use Rattle.page.specs.Headers.{headerFine}
 use Rattle.page.specs.Walks.{walkEnd, allErased}
 use Rattle.page.specs.declared.walk.Ending.{Ending}
 use Rattle.page.specs.declared.walk.Ending.the-variants.{EndAt, Corrupted}
 use Rattle.page.proofs.LaidLaws.{walk-ended}
-use Rattle.writer.specs.Commits.{nextChunk, commitOps, committed}
-use Rattle.writer.specs.Headings.{headerOps, headed}
+use Rattle.writer.specs.Commits.{nextChunk, committed}
+use Rattle.writer.specs.Duties.{Duty, writeDuty, commitDuty, headingDuty, handsBack}
+use Rattle.writer.specs.Headings.{headed}
 use Rattle.writer.specs.Openings.{openAs, openedAfter, opened, resumeAt, appendedAt, appended}
 use Rattle.writer.specs.Outcomes.{ended, wrote}
 use Rattle.writer.specs.States.{firstChunk, mostPending, inRange, fresh, newWriter}
-use Rattle.writer.specs.Verdicts.{writerVerdict, headingVerdict, openVerdict}
-use Rattle.writer.specs.Writes.{takes, grown, isFull, closed, takenOf, writeOps, written}
+use Rattle.writer.specs.Verdicts.{openVerdict}
+use Rattle.writer.specs.Writes.{takes, grown, isFull, closed, takenOf, written}
 use Rattle.writer.specs.declared.answers.Opened.{Opened}
 use Rattle.writer.specs.declared.answers.Opening.the-variants.{Open, Refused}
 use Rattle.writer.specs.declared.page_writer.PageWriter.{PageWriter}
@@ -110,14 +110,16 @@ unfolding inRange
 heading-range w = refl
 
 -- whatever a call hands back that owes operations: refused, cut or done
-pub ended-range : (v : Verdict) (ops : List Op) (next w : PageWriter) (left : ℕ) → inRange w ≡ true → inRange next ≡ true
-    → inRange (ended v ops next w left .writer) ≡ true
-ended-range (verdict.Refused why) ops next w left r n = r
-ended-range verdict.Fine ops next w left r n = either (spent left ops .ok) next w n r
+pub duty-range : (d : Duty) (w : PageWriter) (left : ℕ) → inRange w ≡ true → inRange (d .next) ≡ true → inRange (handsBack d w left .writer) ≡ true
+duty-range d w left r n = by (d .verdict)
   where
-    either : (t : Bool) (a b : PageWriter) → inRange a ≡ true → inRange b ≡ true → inRange (cond t a b) ≡ true
-    either true a b p q = p
-    either false a b p q = q
+    either : (t : Bool) → inRange (cond t (d .next) w) ≡ true
+    either true = n
+    either false = r
+
+    by : (v : Verdict) → inRange (ended v (d .ops) (d .next) w left .writer) ≡ true
+    by (verdict.Refused why) = r
+    by verdict.Fine = either (spent left (d .ops) .ok)
 
 -- ---- new, open and open_append
 
@@ -207,14 +209,11 @@ module _ (e : ℕ) (xs : List ℕ) (w : PageWriter) (left : ℕ) (r : inRange w 
   pub append-in-range : (page : PageID) (h : ℕ) → inRange (appended e xs page h w left .writer) ≡ true
   append-in-range page h = ⊎-elim (append-range e xs page h w left) (λ q. ap inRange q ∙ r) (append-or-back e xs page h w left)
 
-  pub write-in-range : (bytes : List ℕ)
-      → inRange (wrote (takes (length bytes) w) (ended (writerVerdict (length xs) w) (writeOps e w bytes) (written w bytes) w left) .writer) ≡ true
-  write-in-range bytes = ended-range (writerVerdict (length xs) w) (writeOps e w bytes) (written w bytes) w left r (write-range w bytes r)
+  pub write-in-range : (bytes : List ℕ) → inRange (wrote (takes (length bytes) w) (handsBack (writeDuty e xs w bytes) w left) .writer) ≡ true
+  write-in-range bytes = duty-range (writeDuty e xs w bytes) w left r (write-range w bytes r)
 
-  pub commit-in-range : inRange (ended (writerVerdict (length xs) w) (commitOps e w) (committed w) w left .writer) ≡ true
-  commit-in-range = ended-range (writerVerdict (length xs) w) (commitOps e w) (committed w) w left r (commit-range w r)
+  pub commit-in-range : inRange (handsBack (commitDuty e xs w) w left .writer) ≡ true
+  commit-in-range = duty-range (commitDuty e xs w) w left r (commit-range w r)
 
-  pub heading-in-range : (magic : ℕ) (header : List ℕ)
-      → inRange (ended (headingVerdict (length xs) w (length header)) (headerOps e w magic header) (headed w) w left .writer) ≡ true
-  heading-in-range magic header =
-      ended-range (headingVerdict (length xs) w (length header)) (headerOps e w magic header) (headed w) w left r (heading-range w ∙ r)
+  pub heading-in-range : (magic : ℕ) (header : List ℕ) → inRange (handsBack (headingDuty e xs w magic header) w left .writer) ≡ true
+  heading-in-range magic header = duty-range (headingDuty e xs w magic header) w left r (heading-range w ∙ r)

@@ -16,8 +16,10 @@ use Rattle.flash.specs.Operations.{erase, store, opIf}
 use Rattle.flash.specs.declared.ops.Spent.{Spent}
 use Rattle.flash.proofs.OperationLaws.{Ran, ran-append}
 use Rattle.writer.specs.Commits.{payloadFrom, groupAt, chunkOps}
-use Rattle.writer.specs.Outcomes.{came, ended, endedFlash, wrote}
-use Rattle.writer.specs.Writes.{takes, lacking, toGroup, completes, toWhole, groupOf, grown, closed, payloadOps, takingOps, writeOps, written}
+use Rattle.writer.specs.Duties.{Duty, writeDuty, handsBack, leaves}
+use Rattle.writer.specs.Outcomes.{came, wrote}
+use Rattle.writer.specs.Verdicts.{writerVerdict}
+use Rattle.writer.specs.Writes.{takes, lacking, toGroup, completes, toWhole, groupOf, grown, closed, payloadOps, takingOps}
 use Rattle.writer.specs.declared.answers.Ended.{Ended}
 use Rattle.writer.specs.declared.answers.Taking.the-variants as taking
 use Rattle.writer.specs.declared.answers.Wrote.{Wrote}
@@ -58,25 +60,29 @@ grown-fits w next bytes e o p = rw e (o, p)
 -- ---- write
 
 -- out is handed back and ys is the flash, as the definition says
-abbrev pub Writes : Verdict → ℕ → PageWriter → List ℕ → ℕ → List ℕ → Wrote → List ℕ → Type 0
-Writes v e w bytes left xs out ys =
-    (out ≡ wrote (takes (length bytes) w) (ended v (writeOps e w bytes) (written w bytes) w left)) × (ys ≡ endedFlash v (writeOps e w bytes) w left xs)
+abbrev pub Writes : ℕ → PageWriter → List ℕ → ℕ → List ℕ → Wrote → List ℕ → Type 0
+Writes e w bytes left xs out ys =
+    (out ≡ wrote (takes (length bytes) w) (handsBack (writeDuty e xs w bytes) w left)) × (ys ≡ leaves (writeDuty e xs w bytes) w left xs)
 
-module _ (v : Verdict) (e : ℕ) (w : PageWriter) (bytes : List ℕ) (left : ℕ) (xs : List ℕ) where
-  pub write-refused : (why : Refusal) → v ≡ Refused why → Writes v e w bytes left xs (record { answer = taking.Refused why; writer = w; left = left }) xs
+module _ (e : ℕ) (w : PageWriter) (bytes : List ℕ) (left : ℕ) (xs : List ℕ) where
+  abbrev checks : Verdict
+  checks = writerVerdict (length xs) w
+
+  pub write-refused : (why : Refusal) → checks ≡ Refused why → Writes e w bytes left xs (record { answer = taking.Refused why; writer = w; left = left }) xs
   write-refused why f =
-      let r = ends-refused v (writeOps e w bytes) (written w bytes) w left xs why f in
+      let r = ends-refused (writeDuty e xs w bytes) w left xs why f in
       (ap (wrote (takes (length bytes) w)) (r .0), r .1)
 
-  pub write-none : (n : ℕ) → v ≡ Fine → n ≡ takes (length bytes) w → n ≡ 0
-      → Writes v e w bytes left xs (record { answer = taking.Took n; writer = w; left = left }) xs
+  pub write-none : (n : ℕ) → checks ≡ Fine → n ≡ takes (length bytes) w → n ≡ 0
+      → Writes e w bytes left xs (record { answer = taking.Took n; writer = w; left = left }) xs
   write-none n f t z =
-      let r = ends-none v w left xs f in
+      let r = ends-none checks w left xs f in
       rw (eq-eqb (takes (length bytes) w) 0 (sym t ∙ z), ← t) (ap (wrote n) (r .0), r .1)
 
-  pub write-some : (n : ℕ) (r : Spent) (ys : List ℕ) (next after : PageWriter) (end : Ended) (out : Wrote) → v ≡ Fine → n ≡ takes (length bytes) w → (n ≡ 0 → ⊥)
+  pub write-some : (n : ℕ) (r : Spent) (ys : List ℕ) (next after : PageWriter) (end : Ended) (out : Wrote) → checks ≡ Fine → n ≡ takes (length bytes) w → (n ≡ 0 → ⊥)
       → next ≡ grown w (take n bytes) → Ran (pageStart (w .page .0)) left (takingOps e w (take n bytes)) xs r ys → after ≡ closed next → end ≡ came r after w → out ≡ wrote n end
-      → Writes v e w bytes left xs out ys
+      → Writes e w bytes left xs out ys
   write-some n r ys next after end out f t z g ran c d o =
-      let q = ends-ran v (takingOps e w (take n bytes)) (closed (grown w (take n bytes))) w left xs r ys f ran in
+      let whole : Duty = record { verdict = checks; ops = takingOps e w (take n bytes); next = closed (grown w (take n bytes)) } in
+      let q = ends-ran whole w left xs r ys f ran in
       rw (ne-eqb (takes (length bytes) w) 0 (λ k. z (t ∙ k)), ← t, o, d, c, g) (ap (wrote n) (q .0), q .1)

@@ -1,6 +1,7 @@
 pub mod Answers
 pub mod Calls
 pub mod Commits
+pub mod Duties
 pub mod Headings
 pub mod Openings
 pub mod Outcomes

@@ -1,8 +1,9 @@
 -- What a call comes to that owes operations (document 01, 'Adding to a page', the stores left, and row 9): refused before its
 -- work, done where all of them were made, or cut, and then the writer is as at entry. Assumes nothing.
 use mathlib.Core.Bool.{cond}
-use mathlib.Core.List.{List}
+use mathlib.Core.List.{List, []}
 use Prim.Native.Nat.{ℕ}
+use lib.ListN.{take}
 use Rattle.types.specs.declared.refusal.Refusal.the-variants.{Cut, BadState}
 use Rattle.types.specs.declared.refusal.Verdict.{Verdict}
 use Rattle.types.specs.declared.refusal.Verdict.the-variants.{Fine, Refused}
@@ -36,10 +37,15 @@ abbrev pub ended : Verdict → List Op → PageWriter → PageWriter → ℕ →
 ended (Refused why) ops next w left = record { answer = outcome.Refused why; writer = w; left = left }
 ended Fine ops next w left = came (spent left ops) next w
 
--- and the flash after it
+-- the flash after it
 abbrev pub endedFlash : Verdict → List Op → PageWriter → ℕ → List ℕ → List ℕ
 endedFlash (Refused why) ops w left xs = xs
 endedFlash Fine ops w left xs = allowed (pageStart (w .page .0)) left ops xs
+
+-- and the operations that it makes
+abbrev pub endedOps : Verdict → List Op → ℕ → List Op
+endedOps (Refused why) ops left = []
+endedOps Fine ops left = take left ops
 
 -- a write that is done answers the number of bytes that it took
 abbrev pub took : ℕ → Outcome → Taking

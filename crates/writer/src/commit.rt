@@ -18,13 +18,11 @@ ghost use mathlib.Core.Path.{_≡_};
 ghost use mathlib.Core.Bool.{cond};
 ghost use mathlib.Core.List.{[]};
 ghost use Prim.Native.Nat.{_≤_};
-ghost use lib.ListN.{length};
 ghost use Rattle.types.specs.Build.{pageSize, maxChunkSize, eraseValue};
 ghost use Rattle.flash.specs.Geometry.{pageStart};
 ghost use Rattle.flash.specs.Operations.{spent, allowed};
-ghost use Rattle.writer.specs.Commits.{chunkOps, nextChunk, commitOps, committed};
-ghost use Rattle.writer.specs.Outcomes.{ended, endedFlash};
-ghost use Rattle.writer.specs.Verdicts.{writerVerdict};
+ghost use Rattle.writer.specs.Commits.{chunkOps, nextChunk};
+ghost use Rattle.writer.specs.Duties.{commitDuty, handsBack, leaves};
 
 // The operations that finish a chunk, if that is due. Where one is cut none is left, so the later ones make nothing.
 pub(crate) fn finish_chunk(due: bool, w: PageWriter, flash: &mut [u8], left: usize) -> Spent
@@ -71,8 +69,8 @@ pub(crate) fn next_chunk(w: PageWriter) -> PageWriter
 impl PageWriter {
     // Makes the pending bytes a chunk.
     pub fn commit(self, flash: &mut [u8], left: usize) -> Ended
-        ensures answers { λ r. ⌜ r ≡ ended (writerVerdict (length (now (flash .entry))) self) (commitOps eraseValue self) (committed self) self left ⌝ }
-        ensures bytes { λ _. ⌜ now (flash .exit) ≡ endedFlash (writerVerdict (length (now (flash .entry))) self) (commitOps eraseValue self) self left (now (flash .entry)) ⌝ }
+        ensures answers { λ r. ⌜ r ≡ handsBack (commitDuty eraseValue (now (flash .entry)) self) self left ⌝ }
+        ensures bytes { λ _. ⌜ now (flash .exit) ≡ leaves (commitDuty eraseValue (now (flash .entry)) self) self left (now (flash .entry)) ⌝ }
     {
         if let Verdict::Refused(no) = check_writer(flash.len(), self) {
             return Ended {

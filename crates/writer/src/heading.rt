@@ -21,9 +21,8 @@ ghost use lib.ListN.{length};
 ghost use Rattle.types.specs.Build.{maxHeaderSize, eraseValue};
 ghost use Rattle.flash.specs.Geometry.{pageStart};
 ghost use Rattle.flash.specs.Operations.{spent, allowed};
-ghost use Rattle.writer.specs.Headings.{headerRoom, headerOps, headed};
-ghost use Rattle.writer.specs.Outcomes.{ended, endedFlash};
-ghost use Rattle.writer.specs.Verdicts.{headingVerdict};
+ghost use Rattle.writer.specs.Duties.{headingDuty, handsBack, leaves};
+ghost use Rattle.writer.specs.Headings.{headerRoom, headerOps};
 
 // A page header at the start of the longest one's room.
 fn page_header(magic: u32, page: PageID, header: &[u8]) -> [u8; PAGE_HEADER_SIZE + MAX_HEADER_SIZE]
@@ -60,8 +59,8 @@ fn head_page(w: PageWriter, flash: &mut [u8], magic: u32, header: &[u8], left: u
 impl PageWriter {
     // Stores the page header.
     pub fn write_header(self, flash: &mut [u8], magic: u32, header: &[u8], left: usize) -> Ended
-        ensures answers { λ r. ⌜ r ≡ ended (headingVerdict (length (now (flash .entry))) self (length (now (header .entry)))) (headerOps eraseValue self magic (now (header .entry))) (headed self) self left ⌝ }
-        ensures bytes { λ _. ⌜ now (flash .exit) ≡ endedFlash (headingVerdict (length (now (flash .entry))) self (length (now (header .entry)))) (headerOps eraseValue self magic (now (header .entry))) self left (now (flash .entry)) ⌝ }
+        ensures answers { λ r. ⌜ r ≡ handsBack (headingDuty eraseValue (now (flash .entry)) self magic (now (header .entry))) self left ⌝ }
+        ensures bytes { λ _. ⌜ now (flash .exit) ≡ leaves (headingDuty eraseValue (now (flash .entry)) self magic (now (header .entry))) self left (now (flash .entry)) ⌝ }
     {
         if let Verdict::Refused(no) = check_heading(flash.len(), self, header.len()) {
             return Ended {

@@ -31,9 +31,9 @@ ghost use lib.ListN.{length};
 ghost use Rattle.types.specs.Build.{pageSize, maxChunkSize, eraseValue};
 ghost use Rattle.flash.specs.Geometry.{pageStart};
 ghost use Rattle.flash.specs.Operations.{spent, allowed};
-ghost use Rattle.writer.specs.Outcomes.{ended, endedFlash, wrote};
-ghost use Rattle.writer.specs.Verdicts.{writerVerdict};
-ghost use Rattle.writer.specs.Writes.{takes, grown, closed, takingOps, writeOps, written};
+ghost use Rattle.writer.specs.Duties.{writeDuty, handsBack, leaves};
+ghost use Rattle.writer.specs.Outcomes.{wrote};
+ghost use Rattle.writer.specs.Writes.{takes, grown, closed, takingOps};
 
 // How many of n bytes are taken.
 fn takes(n: usize, w: PageWriter) -> usize
@@ -121,8 +121,8 @@ fn take_bytes(w: PageWriter, next: PageWriter, flash: &mut [u8], bytes: &[u8], l
 impl PageWriter {
     // Takes as many of the bytes as there is room for.
     pub fn write(self, flash: &mut [u8], bytes: &[u8], left: usize) -> Wrote
-        ensures answers { λ r. ⌜ r ≡ wrote (takes (length (now (bytes .entry))) self) (ended (writerVerdict (length (now (flash .entry))) self) (writeOps eraseValue self (now (bytes .entry))) (written self (now (bytes .entry))) self left) ⌝ }
-        ensures bytes { λ _. ⌜ now (flash .exit) ≡ endedFlash (writerVerdict (length (now (flash .entry))) self) (writeOps eraseValue self (now (bytes .entry))) self left (now (flash .entry)) ⌝ }
+        ensures answers { λ r. ⌜ r ≡ wrote (takes (length (now (bytes .entry))) self) (handsBack (writeDuty eraseValue (now (flash .entry)) self (now (bytes .entry))) self left) ⌝ }
+        ensures bytes { λ _. ⌜ now (flash .exit) ≡ leaves (writeDuty eraseValue (now (flash .entry)) self (now (bytes .entry))) self left (now (flash .entry)) ⌝ }
     {
         if let Verdict::Refused(no) = check_writer(flash.len(), self) {
             return Wrote {

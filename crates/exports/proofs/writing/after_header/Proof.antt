@@ -4,11 +4,11 @@ use borrow.Author.Needs.{needs}
 use Rattle.exports.proofs.writing.after_header.Statement.{statement}
 use Rattle.exports.proofs.writing.after_header.Tie as tie
 
-outcome-number-requires : tie.Need-outcome-number-requires
-outcome-number-requires c κs = search needs
+number-requires : tie.Need-number-requires
+number-requires c κs = search needs
 
 returns : tie.Need-returns
-returns c = header-stored (c .before .before .args .e) _ (c .outcome-number .ensures)
+returns c = header-stored (c .before .before .args .e) _ (c .number .ensures)
 
 pub after-header-spec : {M : Type 1} → statement M
-after-header-spec = tie.close (tie.spec outcome-number-requires returns)
+after-header-spec = tie.close (tie.spec number-requires returns)

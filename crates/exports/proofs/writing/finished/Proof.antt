@@ -14,8 +14,8 @@ returns c = finished-refused (c .before .before .before .before .args .w) (now (
 commit-requires : tie.Need-commit-requires
 commit-requires c κs = search needs
 
-outcome-number-requires : tie.Need-outcome-number-requires
-outcome-number-requires c κs = search needs
+number-requires : tie.Need-number-requires
+number-requires c κs = search needs
 
 told-requires-2 : tie.Need-told-requires-2
 told-requires-2 c κs = search needs
@@ -24,7 +24,7 @@ same-length : tie.Need-same-length
 same-length c = search needs
 
 returns-2 : tie.Need-returns-2
-returns-2 c = finished-done (c .before .before .before .before .before .before .before .before .before .before .args .w) (now (c .before .before .before .before .before .before .before .before .before .before .args .flash)) (c .before .before .before .before .commit .result) _ _ _ (c .before .before .before .before .before .before .before .if1 .left) (c .before .before .before .before .commit .ensures .0) (c .before .before .before .before .commit .ensures .1) (c .before .outcome-number .ensures) (c .told2 .ensures)
+returns-2 c = finished-done (c .before .before .before .before .before .before .before .before .before .before .args .w) (now (c .before .before .before .before .before .before .before .before .before .before .args .flash)) (c .before .before .before .before .commit .result) _ _ _ (c .before .before .before .before .before .before .before .if1 .left) (c .before .before .before .before .commit .ensures .0) (c .before .before .before .before .commit .ensures .1) (c .before .number .ensures) (c .told2 .ensures)
 
 pub finished-spec : {M : Type 1} → statement M
 finished-spec =
@@ -33,7 +33,7 @@ finished-spec =
     told-requires
     returns
     commit-requires
-    outcome-number-requires
+    number-requires
     told-requires-2
     same-length
     returns-2)

@@ -3,7 +3,7 @@ use mathlib.Core.Path.{_≡_, sym, _∙_}
 use lib.ListN.{length}
 use Rattle.types.specs.Build.{eraseValue}
 use Rattle.types.specs.declared.refusal.Verdict.the-variants.{Fine}
-use Rattle.writer.specs.Commits.{commitOps, committed}
+use Rattle.writer.specs.Duties.{commitDuty}
 use Rattle.writer.specs.Verdicts.{writerVerdict}
 use Rattle.writer.proofs.CheckLaws.{writer-passed, Sound, sound, small}
 use Rattle.writer.proofs.CommitLaws.{commit-none, commit-some}
@@ -21,7 +21,7 @@ enum-known-no c = search needs
 returns : tie.Need-returns
 returns c =
     let a = c .before .before .before .before .before .args in
-    ends-refused (writerVerdict (length (a .flash .now)) (a .self)) (commitOps eraseValue (a .self)) (committed (a .self)) (a .self) (a .left) (a .flash .now)
+    ends-refused (commitDuty eraseValue (a .flash .now) (a .self)) (a .self) (a .left) (a .flash .now)
     (c .before .no .given .0 .0) (sym (c .before .before .before .check-writer .ensures) ∙ c .before .no .given .1)
 
 enum-told : tie.Need-enum-told
@@ -36,7 +36,7 @@ known c = sound (c .before .before .before .before .args .self) (writer-passed _
 returns-2 : tie.Need-returns-2
 returns-2 c =
     let a = c .before .before .before .before .before .before .args in
-    commit-none (writerVerdict (length (a .flash .now)) (a .self)) eraseValue (a .self) (a .left) (a .flash .now) (fine (c .before .before)) (c .if1 .taken)
+    commit-none eraseValue (a .self) (a .left) (a .flash .now) (fine (c .before .before)) (c .if1 .taken)
 
 finish-chunk-requires : tie.Need-finish-chunk-requires
 finish-chunk-requires c κs = let k = known (c .before .before .before) in (k .within, small _ k)
@@ -53,7 +53,7 @@ same-length c = search needs
 returns-3 : tie.Need-returns-3
 returns-3 c =
     let a = c .before .before .before .before .before .before .before .before .before .before .before .before .args in
-    commit-some (writerVerdict (length (a .flash .now)) (a .self)) eraseValue (a .self) (a .left) (a .flash .now) (fine (c .before .before .before .before .before .before .before .before))
+    commit-some eraseValue (a .self) (a .left) (a .flash .now) (fine (c .before .before .before .before .before .before .before .before))
     (c .before .before .before .before .finish-chunk .result) (c .before .before .before .before .finish-chunk .last .1 .1 .0) (c .before .next-chunk .result) (c .came .result) (c .before .before .before .before .before .before .if1 .left)
     (c .before .before .before .before .finish-chunk .ensures) (c .before .next-chunk .ensures) (c .came .ensures)
 

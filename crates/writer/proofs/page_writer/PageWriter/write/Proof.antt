@@ -21,7 +21,7 @@ enum-known-no c = search needs
 returns : tie.Need-returns
 returns c =
     let a = c .before .before .before .before .before .before .args in
-    write-refused (writerVerdict (length (a .flash .now)) (a .self)) eraseValue (a .self) (a .bytes .now) (a .left) (a .flash .now)
+    write-refused eraseValue (a .self) (a .bytes .now) (a .left) (a .flash .now)
     (c .before .no .given .0 .0) (sym (c .before .before .before .check-writer .ensures) ∙ c .before .no .given .1)
 
 enum-told : tie.Need-enum-told
@@ -42,7 +42,7 @@ fits c = taken-fits (c .before .before .before .before .before .before .args .se
 returns-2 : tie.Need-returns-2
 returns-2 c =
     let a = c .before .before .before .before .before .before .before .args in
-    write-none (writerVerdict (length (a .flash .now)) (a .self)) eraseValue (a .self) (a .bytes .now) (a .left) (a .flash .now)
+    write-none eraseValue (a .self) (a .bytes .now) (a .left) (a .flash .now)
     (c .before .takes .result) (fine (c .before .before)) (c .before .takes .ensures) (c .if1 .taken)
 
 slice-aggregate-part : tie.Need-slice-aggregate-part
@@ -69,7 +69,7 @@ same-length c = search needs
 returns-3 : tie.Need-returns-3
 returns-3 c =
     let a = c .before .before .before .before .before .before .before .before .before .before .before .before .before .before .before .before .args in
-    write-some (writerVerdict (length (a .flash .now)) (a .self)) eraseValue (a .self) (a .bytes .now) (a .left) (a .flash .now)
+    write-some eraseValue (a .self) (a .bytes .now) (a .left) (a .flash .now)
     (c .before .before .before .before .before .before .before .before .before .before .takes .result) (c .before .before .before .before .before .take-bytes .result) (c .before .before .before .before .before .take-bytes .last .1 .1 .0) (c .before .before .before .before .before .before .before .grown .result) (c .before .before .closed .result) (c .before .came .result) (c .wrote .result) (fine (c .before .before .before .before .before .before .before .before .before .before .before)) (c .before .before .before .before .before .before .before .before .before .before .takes .ensures) (c .before .before .before .before .before .before .before .before .before .if1 .left)
     (c .before .before .before .before .before .before .before .grown .ensures) (c .before .before .before .before .before .take-bytes .ensures) (c .before .before .closed .ensures) (c .before .came .ensures) (c .wrote .ensures)
 

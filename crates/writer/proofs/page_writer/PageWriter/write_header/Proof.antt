@@ -3,7 +3,7 @@ use mathlib.Core.Path.{_≡_, sym, _∙_}
 use lib.ListN.{length}
 use Rattle.types.specs.Build.{eraseValue}
 use Rattle.types.specs.declared.refusal.Verdict.the-variants.{Fine}
-use Rattle.writer.specs.Headings.{headerOps, headed}
+use Rattle.writer.specs.Duties.{headingDuty}
 use Rattle.writer.specs.Verdicts.{headingVerdict}
 use Rattle.writer.proofs.CheckLaws.{heading-passed, header-facts}
 use Rattle.writer.proofs.OutcomeLaws.{ends-refused, ends-ran}
@@ -20,7 +20,7 @@ enum-known-no c = search needs
 returns : tie.Need-returns
 returns c =
     let a = c .before .before .before .before .before .before .args in
-    ends-refused (headingVerdict (length (a .flash .now)) (a .self) (length (a .header .now))) (headerOps eraseValue (a .self) (a .magic) (a .header .now)) (headed (a .self)) (a .self) (a .left) (a .flash .now)
+    ends-refused (headingDuty eraseValue (a .flash .now) (a .self) (a .magic) (a .header .now)) (a .self) (a .left) (a .flash .now)
     (c .before .no .given .0 .0) (sym (c .before .before .before .check-heading .ensures) ∙ c .before .no .given .1)
 
 enum-told : tie.Need-enum-told
@@ -41,7 +41,7 @@ same-length c = search needs
 returns-2 : tie.Need-returns-2
 returns-2 c =
     let a = c .before .before .before .before .before .before .before .before .before .before .args in
-    let q = ends-ran (headingVerdict (length (a .flash .now)) (a .self) (length (a .header .now))) (headerOps eraseValue (a .self) (a .magic) (a .header .now)) (headed (a .self)) (a .self) (a .left) (a .flash .now) (c .before .before .before .head-page .result) (c .before .before .before .head-page .last .1 .0) (fine (c .before .before .before .before .before)) (c .before .before .before .head-page .ensures) in
+    let q = ends-ran (headingDuty eraseValue (a .flash .now) (a .self) (a .magic) (a .header .now)) (a .self) (a .left) (a .flash .now) (c .before .before .before .head-page .result) (c .before .before .before .head-page .last .1 .0) (fine (c .before .before .before .before .before)) (c .before .before .before .head-page .ensures) in
     (c .came .ensures ∙ q .0, q .1)
 
 pub write-header-spec : {M : Type 1} → statement M
