@@ -5,21 +5,18 @@ use mathlib.Core.Bool.{true}
 use mathlib.Core.List.{List, [], _∷_, _++_}
 use Prim.Native.Nat.{ℕ, _+_, _≤_, _<_}
 use native.Mathlib.Omega.{arith}
-use lib.Dec.{eqb}
 use lib.ListN.{length}
-use borrow.Author.Tests.{eq-eqb}
 use Rattle.types.specs.Bytes.{word}
 use Rattle.types.specs.Build.{eraseValue, pageHeaderSize}
 use Rattle.types.specs.declared.page_id.PageID.{PageID}
 use Rattle.types.specs.declared.refusal.Verdict.the-variants.{Fine}
-use Rattle.crc.specs.Published.{published}
 use Rattle.flash.specs.Geometry.{flashFine, hasPage, pageOf}
 use Rattle.flash.specs.Patch.{blank}
 use Rattle.page.specs.Chunks.{chunkMagic, nextOffset}
 use Rattle.page.specs.Walks.{Chunk, walkFrom}
 use Rattle.page.proofs.LaidLaws.{All}
 use Rattle.reader.specs.Checks.{openVerdict}
-use Rattle.reader.specs.Finds.{Found, payloadOf, NotEmpty, found}
+use Rattle.reader.specs.Finds.{Found, NotEmpty, found}
 use Rattle.reader.proofs.FoundLaws.{found-whole}
 use Rattle.reader.proofs.GoodLaws.{Right as SumRight}
 use Rattle.writer.specs.declared.page_writer.PageWriter.{PageWriter}
@@ -38,7 +35,7 @@ all-some page (c ∷ cs) r = (r .0 .some, all-some page cs (r .1))
 
 all-sums : (page : List ℕ) (cs : List Chunk) → AllRight page cs → All (SumRight page) cs
 all-sums page [] r = tt
-all-sums page (c ∷ cs) r = (eq-eqb (published (payloadOf page c)) (c .crc) (r .0 .sum), all-sums page cs (r .1))
+all-sums page (c ∷ cs) r = (r .0 .sum, all-sums page cs (r .1))
 
 -- exactly these payloads, one a read, and then the end
 abbrev pub finds : List (List ℕ) → Found

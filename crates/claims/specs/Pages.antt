@@ -3,20 +3,19 @@
 use mathlib.Core.Path.{_≡_}
 use mathlib.Core.Bool.{true}
 use mathlib.Core.List.{List, [], _∷_, map}
-use Prim.Native.Nat.{ℕ, _+_, _<_}
+use Prim.Native.Nat.{ℕ, _+_}
 use lib.ListN.{length}
 use Rattle.types.specs.Build.{pageSize, pageHeaderSize}
 use Rattle.types.specs.Bytes.{Bytes}
-use Rattle.crc.specs.Published.{published}
 use Rattle.page.specs.Headers.{headerFine, pageHeaderFine}
 use Rattle.page.specs.Walks.{Chunk, walkFrom}
 use Rattle.page.specs.declared.walk.Ending.the-variants.{EndAt}
-use Rattle.reader.specs.Finds.{payloadOf}
+use Rattle.reader.specs.Finds.{payloadOf, NotEmpty, sumRight}
 
 -- a chunk that is not empty and whose sum is right
 pub record Right (page : List ℕ) (c : Chunk) : Type 0 where
-  pub some : 0 < c .len
-  pub sum : published (payloadOf page c) ≡ c .crc
+  pub some : NotEmpty c
+  pub sum : sumRight page c ≡ true
 
 -- each of these chunks is
 abbrev pub AllRight : List ℕ → List Chunk → Type 0

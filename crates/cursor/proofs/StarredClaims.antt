@@ -1,6 +1,6 @@
 -- The starred numbers on runs hold: one claim over the table, by computation. Assumes nothing.
 use mathlib.Core.Path.{_≡_, refl}
-use mathlib.Core.List.{map}
+use mathlib.Core.List.{map, flatten}
 use Rattle.types.specs.Bytes.{word}
 use Rattle.run.specs.Bounds.{pastBy}
 use Rattle.run.specs.Keys.{compareKeys}
@@ -13,8 +13,8 @@ use Rattle.cursor.specs.Next.{fitted, answerBy, placesBy, putIn, putBy, 
 use Rattle.cursor.specs.Pass.{againstLowest, lookBy, lookHead, lookAt, lowestKey, lowestValue, shows, change, passFrom, passOf}
 use Rattle.cursor.specs.Runs.{startOf}
 use Rattle.cursor.specs.Settle.{isHidden, leftAt, sumTo, left, settleFrom, settled}
-use Rattle.cursor.specs.Starred.{liveB, liveC, bothRuns, joined, endsFrom, shownKey, shownValue, placesIn, outcomeOf, outcomesFrom, outcomes, given, expected, call, roomForAll, noRoomFirst, starred}
+use Rattle.cursor.specs.Starred.{liveB, liveC, bothRuns, endsFrom, shownKey, shownValue, placesIn, outcomeOf, outcomesFrom, outcomes, given, expected, call, roomForAll, noRoomFirst, starred}
 
 pub starred-hold : map outcomes starred ≡ map expected starred
-unfolding word pastBy compareKeys partOf bodyAt headBy headAt soughtBy soughtHead soughtFrom soughtIn risingEnds goodRuns goodPlace goodFrom goodPlaces newCheck nextCheck placed newFrom newBy newOf fitted answerBy placesBy putIn putBy movedBy nextBy nextOf nextKey nextValue againstLowest lookBy lookHead lookAt lowestKey lowestValue shows change passFrom passOf startOf isHidden leftAt sumTo left settleFrom settled liveB liveC bothRuns joined endsFrom shownKey shownValue placesIn outcomeOf outcomesFrom outcomes given expected call roomForAll noRoomFirst starred
+unfolding word pastBy compareKeys partOf bodyAt headBy headAt soughtBy soughtHead soughtFrom soughtIn risingEnds goodRuns goodPlace goodFrom goodPlaces newCheck nextCheck placed newFrom newBy newOf fitted answerBy placesBy putIn putBy movedBy nextBy nextOf nextKey nextValue againstLowest lookBy lookHead lookAt lowestKey lowestValue shows change passFrom passOf startOf isHidden leftAt sumTo left settleFrom settled liveB liveC bothRuns flatten endsFrom shownKey shownValue placesIn outcomeOf outcomesFrom outcomes given expected call roomForAll noRoomFirst starred
 starred-hold = refl

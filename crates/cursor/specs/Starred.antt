@@ -1,6 +1,6 @@
 -- Document 01's starred numbers on runs, as data: each case has its runs, the room of each call's buffers, and what each
 -- call is to give. What it does give is computed from the definitions. Assumes nothing.
-use mathlib.Core.List.{List, [], _∷_, _++_}
+use mathlib.Core.List.{List, [], _∷_, _++_, flatten}
 use Prim.Native.Nat.{ℕ, _+_}
 use lib.ListN.{length, take, replicate}
 use Rattle.run.specs.RecordTable.{liveA, deletedA}
@@ -27,11 +27,7 @@ liveC = 0x48 ∷ 0x56 ∷ 0x00 ∷ 0x01 ∷ 0x01 ∷ 0x00 ∷ 0x63 ∷ 0x33 ∷ 
 unfoldable pub bothRuns : List (List ℕ)
 bothRuns = (liveA .bytes ++ liveC) ∷ (deletedA .bytes ++ liveB) ∷ []
 
--- runs one behind the other, and where each ends
-unfoldable pub joined : List (List ℕ) → List ℕ
-joined [] = []
-joined (run ∷ runs) = run ++ joined runs
-
+-- where each run ends, of runs one behind the other
 unfoldable pub endsFrom : ℕ → List (List ℕ) → List ℕ
 endsFrom from [] = []
 endsFrom from (run ∷ runs) = (from + length run) ∷ endsFrom (from + length run) runs
@@ -91,8 +87,8 @@ outcomesFrom bytes ends c (x ∷ calls) =
 
 unfoldable pub outcomes : Case → List Outcome
 outcomes x =
-    outcomesFrom (joined (x .runs)) (endsFrom 0 (x .runs))
-    (newOf (joined (x .runs)) (endsFrom 0 (x .runs)) Unbounded [] .cursor) (x .calls)
+    outcomesFrom (flatten (x .runs)) (endsFrom 0 (x .runs))
+    (newOf (flatten (x .runs)) (endsFrom 0 (x .runs)) Unbounded [] .cursor) (x .calls)
 
 unfoldable pub given : List Call → List Outcome
 given [] = []

@@ -1,7 +1,7 @@
 -- Buffers of any sizes from 1 on hand out the same bytes, in other pieces. Assumes nothing.
 use mathlib.Core.Path.{_≡_, refl, sym, ap, subst, _∙_}
 use mathlib.Core.Bool.{Bool, true, false}
-use mathlib.Core.List.{List, [], _∷_, _++_, append-assoc}
+use mathlib.Core.List.{List, [], _∷_, _++_, append-assoc, flatten}
 use mathlib.Core.Logic.{⊎-elim}
 use Prim.Native.Nat.{ℕ, zero, suc, _+_, _-_, _%_, _≤_, _<_, min}
 use native.Mathlib.Nat.{not-suc-le-zero}
@@ -20,7 +20,7 @@ use Rattle.page.specs.Walks.{Chunk, Walked, walkFrom}
 use Rattle.page.specs.declared.chunk.Step.{Step}
 use Rattle.page.specs.declared.chunk.Step.the-variants as step
 use Rattle.page.proofs.LaidLaws.{All, endOf, end-within, walk-laid}
-use Rattle.reader.specs.Finds.{Found, Joined, NotEmpty, concat, joined, andThen, reads, readAll, foundWith, walkFinds}
+use Rattle.reader.specs.Finds.{Found, Joined, NotEmpty, joined, andThen, reads, readAll, foundWith, walkFinds}
 use Rattle.reader.specs.Calls.{opened, openPage}
 use Rattle.reader.specs.Checks.{openVerdict, readerVerdict}
 use Rattle.reader.specs.Moves.{arriving, moved, ready, restOf, past}
@@ -37,7 +37,7 @@ abbrev pub ahead : List ℕ → Joined → Joined
 ahead bytes j = record { bytes = bytes ++ j .bytes; ends = j .ends }
 
 pub joined-then : (part : List ℕ) (f : Found) → joined (andThen part f) ≡ ahead part (joined f)
-unfolding concat
+unfolding flatten
 joined-then part f = refl
 
 -- ---- how many bytes a walk has

@@ -1,7 +1,7 @@
 -- What a new reader finds on a page, by the calls' own definitions: open, then reads until one answers 0 or refuses. And what
 -- the page's walk says of it. Assumes nothing.
 use mathlib.Core.Bool.{Bool, cond}
-use mathlib.Core.List.{List, [], _∷_, _++_}
+use mathlib.Core.List.{List, [], _∷_, flatten}
 use Prim.Native.Nat.{ℕ, zero, suc, _≤_}
 use lib.Dec.{eqb}
 use lib.ListN.{length, take}
@@ -89,13 +89,9 @@ walkFinds page o = goodPart page (walkFrom page o .chunks) (walkFrom page o .end
 
 -- ---- all bytes as one
 
-unfoldable pub concat : List (List ℕ) → List ℕ
-concat [] = []
-concat (part ∷ parts) = part ++ concat parts
-
 pub record Joined : Type 0 where
   pub bytes : List ℕ
   pub ends : Verdict
 
 abbrev pub joined : Found → Joined
-joined f = record { bytes = concat (f .parts); ends = f .ends }
+joined f = record { bytes = flatten (f .parts); ends = f .ends }
