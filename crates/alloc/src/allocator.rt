@@ -74,9 +74,11 @@ impl Allocator {
                 allocator: self,
             };
         }
-        let pages = self.pages;
-        let MaybePageID::Some(page) = marks::first_free(pages, self.next_page_id, self.page_count)
-        else {
+        let MaybePageID::Some(page) = marks::first_free(
+            &self.pages,
+            self.next_page_id,
+            self.page_count,
+        ) else {
             return Allocation {
                 answer: Allocated::None,
                 allocator: self,
@@ -99,8 +101,7 @@ impl Allocator {
             };
         }
         let p = page.index();
-        let pages = self.pages;
-        if marks::is_marked(pages, p) {
+        if marks::is_marked(&self.pages, p) {
             return Change {
                 answer: Outcome::Refused(Refusal::Corrupted),
                 allocator: self,
@@ -122,8 +123,7 @@ impl Allocator {
             };
         }
         let p = page.index();
-        let pages = self.pages;
-        if !marks::is_marked(pages, p) {
+        if !marks::is_marked(&self.pages, p) {
             return Change {
                 answer: Outcome::Refused(Refusal::Corrupted),
                 allocator: self,
@@ -141,8 +141,7 @@ impl Allocator {
         if let Verdict::Refused(no) = checks::page_check(self, page) {
             return Usage::Refused(no);
         }
-        let pages = self.pages;
-        if marks::is_marked(pages, page.index()) {
+        if marks::is_marked(&self.pages, page.index()) {
             Usage::Used
         } else {
             Usage::Free

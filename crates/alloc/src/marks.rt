@@ -1,9 +1,9 @@
 // The marks: a bit for each page, eight to a byte, the first in the lowest bit (alloc.rs, get_bit and set_bit); and the search over them.
 ghost use mathlib.Core.Path.{_≡_};
 ghost use mathlib.Core.Bool.{true, false};
-ghost use Prim.Native.Nat.{_-_, _≤_, _<_};
+ghost use Prim.Native.Nat.{_-_, _/_, _≤_, _<_};
 ghost use lib.Dec.{eqb};
-ghost use lib.ListN.{drop};
+ghost use lib.ListN.{length, drop};
 ghost use Rattle.types.specs.Build.{maxPageCount};
 ghost use Rattle.alloc.specs.Marks.{marksOf, isMarked, countOf, marking, freeing};
 ghost use Rattle.alloc.specs.Search.{upFrom, roundFrom, firstFree};
@@ -11,16 +11,18 @@ use super::allocator::MARK_BYTES;
 use types::page_id::MaybePageID;
 use types::page_id::PageID;
 
-pub(crate) fn is_marked(pages: [u8; MARK_BYTES], page: usize) -> bool
+pub(crate) fn is_marked(pages: &[u8], page: usize) -> bool
+    requires { ⌜ length (now pages) ≡ maxPageCount / 8 ⌝ }
     requires { ⌜ page < maxPageCount ⌝ }
-    ensures answers { λ r. ⌜ r ≡ isMarked pages page ⌝ }
+    ensures answers { λ r. ⌜ r ≡ isMarked (now (pages .entry)) page ⌝ }
 {
     (pages[page / 8] >> (page % 8)) % 2 == 1
 }
 
 // How many marks there are in the bytes from one on.
-pub(crate) fn count_from(pages: [u8; MARK_BYTES], at: usize) -> usize
-    ensures answers { λ r. ⌜ r ≡ countOf (marksOf (drop at pages)) ⌝ }
+pub(crate) fn count_from(pages: &[u8], at: usize) -> usize
+    requires { ⌜ length (now pages) ≡ maxPageCount / 8 ⌝ }
+    ensures answers { λ r. ⌜ r ≡ countOf (marksOf (drop at (now (pages .entry)))) ⌝ }
 {
     // A sum of 16 bits, so that eight bytes are counted at a time.
     let mut n: u16 = 0;
@@ -33,8 +35,9 @@ pub(crate) fn count_from(pages: [u8; MARK_BYTES], at: usize) -> usize
 }
 
 // Whether no page from one on is marked.
-pub(crate) fn none_from(pages: [u8; MARK_BYTES], page: usize) -> bool
-    ensures answers { λ r. ⌜ r ≡ eqb (countOf (drop page (marksOf pages))) 0 ⌝ }
+pub(crate) fn none_from(pages: &[u8], page: usize) -> bool
+    requires { ⌜ length (now pages) ≡ maxPageCount / 8 ⌝ }
+    ensures answers { λ r. ⌜ r ≡ eqb (countOf (drop page (marksOf (now (pages .entry))))) 0 ⌝ }
 {
     let at = page / 8;
     if MARK_BYTES <= at {
@@ -44,9 +47,10 @@ pub(crate) fn none_from(pages: [u8; MARK_BYTES], page: usize) -> bool
 }
 
 // The first free page from one up to another.
-fn free_between(pages: [u8; MARK_BYTES], from: usize, to: usize) -> MaybePageID
+fn free_between(pages: &[u8], from: usize, to: usize) -> MaybePageID
+    requires { ⌜ length (now pages) ≡ maxPageCount / 8 ⌝ }
     requires { ⌜ to ≤ maxPageCount ⌝ }
-    ensures answers { λ r. ⌜ r ≡ firstFree (marksOf pages) (upFrom from (to - from)) ⌝ }
+    ensures answers { λ r. ⌜ r ≡ firstFree (marksOf (now (pages .entry))) (upFrom from (to - from)) ⌝ }
 {
     let mut i = from;
     while i < to {
@@ -64,10 +68,11 @@ fn free_between(pages: [u8; MARK_BYTES], from: usize, to: usize) -> MaybePageID
 }
 
 // The first free page from the next one on, round.
-pub(crate) fn first_free(pages: [u8; MARK_BYTES], next: usize, count: usize) -> MaybePageID
+pub(crate) fn first_free(pages: &[u8], next: usize, count: usize) -> MaybePageID
+    requires { ⌜ length (now pages) ≡ maxPageCount / 8 ⌝ }
     requires { ⌜ next ≤ maxPageCount ⌝ }
     requires { ⌜ count ≤ maxPageCount ⌝ }
-    ensures answers { λ r. ⌜ r ≡ firstFree (marksOf pages) (roundFrom next count) ⌝ }
+    ensures answers { λ r. ⌜ r ≡ firstFree (marksOf (now (pages .entry))) (roundFrom next count) ⌝ }
 {
     match free_between(pages, next, count) {
         MaybePageID::Some(page) => MaybePageID::Some(page),
@@ -75,24 +80,22 @@ pub(crate) fn first_free(pages: [u8; MARK_BYTES], next: usize, count: usize) -> 
     }
 }
 
-pub(crate) fn mark(pages: [u8; MARK_BYTES], page: usize) -> [u8; MARK_BYTES]
+pub(crate) fn mark(pages: &mut [u8], page: usize)
+    requires { ⌜ length (now pages) ≡ maxPageCount / 8 ⌝ }
     requires { ⌜ page < maxPageCount ⌝ }
-    requires { ⌜ isMarked pages page ≡ false ⌝ }
-    ensures answers { λ r. ⌜ r ≡ marking pages page ⌝ }
+    requires { ⌜ isMarked (now pages) page ≡ false ⌝ }
+    ensures bytes { λ _. ⌜ now (pages .exit) ≡ marking (now (pages .entry)) page ⌝ }
 {
-    let mut bytes = pages;
     let at = page / 8;
-    bytes[at] = bytes[at] + (1 << (page % 8));
-    bytes
+    pages[at] = pages[at] + (1 << (page % 8));
 }
 
-pub(crate) fn unmark(pages: [u8; MARK_BYTES], page: usize) -> [u8; MARK_BYTES]
+pub(crate) fn unmark(pages: &mut [u8], page: usize)
+    requires { ⌜ length (now pages) ≡ maxPageCount / 8 ⌝ }
     requires { ⌜ page < maxPageCount ⌝ }
-    requires { ⌜ isMarked pages page ≡ true ⌝ }
-    ensures answers { λ r. ⌜ r ≡ freeing pages page ⌝ }
+    requires { ⌜ isMarked (now pages) page ≡ true ⌝ }
+    ensures bytes { λ _. ⌜ now (pages .exit) ≡ freeing (now (pages .entry)) page ⌝ }
 {
-    let mut bytes = pages;
     let at = page / 8;
-    bytes[at] = bytes[at] - (1 << (page % 8));
-    bytes
+    pages[at] = pages[at] - (1 << (page % 8));
 }

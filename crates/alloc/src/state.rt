@@ -1,7 +1,7 @@
 // The allocator's state: its range, and the states that calls leave.
 ghost use mathlib.Core.Path.{_≡_};
 ghost use mathlib.Core.Bool.{true, false};
-ghost use Prim.Native.Nat.{_≤_, _<_};
+ghost use Prim.Native.Nat.{_+_, _%_, _≤_, _<_};
 ghost use Rattle.types.specs.Build.{maxPageCount};
 ghost use Rattle.alloc.specs.Marks.{isMarked};
 ghost use Rattle.alloc.specs.State.{nextFits, inRange, marked, freed, movedPast};
@@ -18,11 +18,10 @@ fn next_fits(next: usize, count: usize) -> bool
 pub(crate) fn in_range(a: Allocator) -> bool
     ensures answers { λ r. ⌜ r ≡ inRange a ⌝ }
 {
-    let pages = a.pages;
     (a.page_count <= MAX_PAGE_COUNT)
         & next_fits(a.next_page_id, a.page_count)
-        & (a.used == marks::count_from(pages, 0))
-        & marks::none_from(pages, a.page_count)
+        & (a.used == marks::count_from(&a.pages, 0))
+        & marks::none_from(&a.pages, a.page_count)
 }
 
 // A free page marked, and counted.
@@ -32,11 +31,11 @@ pub(crate) fn marked(a: Allocator, p: usize) -> Allocator
     requires { ⌜ a .used ≤ maxPageCount ⌝ }
     ensures answers { λ r. ⌜ r ≡ marked a p ⌝ }
 {
-    let pages = a.pages;
-    let with = marks::mark(pages, p);
+    let mut pages = a.pages;
+    marks::mark(&mut pages, p);
     Allocator {
         page_count: a.page_count,
-        pages: with,
+        pages,
         used: a.used + 1,
         next_page_id: a.next_page_id,
     }
@@ -49,27 +48,35 @@ pub(crate) fn freed(a: Allocator, p: usize) -> Allocator
     requires { ⌜ 1 ≤ a .used ⌝ }
     ensures answers { λ r. ⌜ r ≡ freed a p ⌝ }
 {
-    let pages = a.pages;
-    let without = marks::unmark(pages, p);
+    let mut pages = a.pages;
+    marks::unmark(&mut pages, p);
     Allocator {
         page_count: a.page_count,
-        pages: without,
+        pages,
         used: a.used - 1,
         next_page_id: a.next_page_id,
     }
 }
 
-// The next search starts past a page, round.
+// The page past a page, round.
+pub(crate) fn page_past(p: usize, count: usize) -> usize
+    requires { ⌜ p < count ⌝ }
+    ensures answers { λ r. ⌜ r ≡ (p + 1) % count ⌝ }
+{
+    let next = p + 1;
+    if next == count { 0 } else { next }
+}
+
+// The next search starts there.
 pub(crate) fn moved_past(a: Allocator, p: usize) -> Allocator
     requires { ⌜ p < a .«page_count» ⌝ }
     ensures answers { λ r. ⌜ r ≡ movedPast a p ⌝ }
 {
-    let next = p + 1;
     let pages = a.pages;
     Allocator {
         page_count: a.page_count,
         pages,
         used: a.used,
-        next_page_id: if next == a.page_count { 0 } else { next },
+        next_page_id: page_past(p, a.page_count),
     }
 }

@@ -20,13 +20,13 @@ free-between-requires-2 c κs = search needs
 
 returns : tie.Need-returns
 returns c =
-    let a = c .before .before .before .before .args in
-    sym (search-found (marksOf (a .pages)) (a .next) (a .count) (c .before .page .given .0 .0) (sym (c .before .before .before .free-between .ensures) ∙ c .before .page .given .1))
+    let a = c .before .before .before .before .before .args in
+    sym (search-found (marksOf (a .pages .now)) (a .next) (a .count) (c .before .page .given .0 .0) (sym (c .before .before .before .free-between .ensures) ∙ c .before .page .given .1))
 
 returns-2 : tie.Need-returns-2
 returns-2 c =
-    let a = c .before .before .before .before .args in
-    c .free-between2 .ensures ∙ sym (search-wraps (marksOf (a .pages)) (a .next) (a .count) (sym (c .before .before .before .free-between .ensures) ∙ c .before .enum-told .given .1))
+    let a = c .before .before .before .before .before .args in
+    c .free-between2 .ensures ∙ sym (search-wraps (marksOf (a .pages .now)) (a .next) (a .count) (sym (c .before .before .before .free-between .ensures) ∙ c .before .enum-told .given .1))
 
 pub first-free-spec : {M : Type 1} → statement M
 first-free-spec =

@@ -10,16 +10,16 @@ use Rattle.alloc.proofs.marks.free_between.Statement.{statement}
 use Rattle.alloc.proofs.marks.free_between.Tie as tie
 
 abbrev Inv-loop : tie.InvT-loop
-Inv-loop from to pages i₀ i = firstFree (marksOf pages) (upFrom i (to - i)) ≡ firstFree (marksOf pages) (upFrom from (to - from))
+Inv-loop pages from to i₀ i = firstFree (marksOf pages) (upFrom i (to - i)) ≡ firstFree (marksOf pages) (upFrom from (to - from))
 
 abbrev μ-loop : tie.MeasureT-loop
-μ-loop from to pages i₀ i = to - i
+μ-loop pages from to i₀ i = to - i
 
 loop-holds : tie.Need-loop-holds Inv-loop μ-loop
 loop-holds c = refl
 
-array-read-byte : tie.Need-array-read-byte Inv-loop μ-loop
-array-read-byte c = omega arith
+shared-slice-read-byte : tie.Need-shared-slice-read-byte Inv-loop μ-loop
+shared-slice-read-byte c = omega arith
 
 add-i : tie.Need-add-i Inv-loop μ-loop
 add-i c = omega arith
@@ -31,7 +31,7 @@ loop-less : tie.Need-loop-less Inv-loop μ-loop
 loop-less c = omega arith
 
 loop-again : tie.Need-loop-again Inv-loop μ-loop
-loop-again c = sym (search-byte (c .before .before .before .args .t1) (c .before .before .loop .i) (c .before .before .before .args .to) (c .if1 .taken)) ∙ c .before .before .loop .inv
+loop-again c = sym (search-byte (c .before .before .before .before .args .pages .now) (c .before .before .before .loop .i) (c .before .before .before .before .args .to) (c .if1 .taken)) ∙ c .before .before .before .loop .inv
 
 cast-if2 : tie.Need-cast-if2 Inv-loop μ-loop
 cast-if2 c = omega arith
@@ -39,15 +39,15 @@ cast-if2 c = omega arith
 shr-if2 : tie.Need-shr-if2 Inv-loop μ-loop
 shr-if2 c = omega arith
 
-cast-t19 : tie.Need-cast-t19 Inv-loop μ-loop
-cast-t19 c = omega arith
+cast-t17 : tie.Need-cast-t17 Inv-loop μ-loop
+cast-t17 c = omega arith
 
 returns : tie.Need-returns Inv-loop μ-loop
 returns c =
-    let bs = c .before .before .before .before .args .t1 in
-    let i = c .before .before .before .loop .i in
-    sym (search-free (marksOf bs) i (c .before .before .before .before .args .to) (c .before .before .loop-test .taken) (bit-free bs i (c .if2 .taken)))
-    ∙ c .before .before .before .loop .inv
+    let bs = c .before .before .before .before .before .args .pages .now in
+    let i = c .before .before .before .before .loop .i in
+    sym (search-free (marksOf bs) i (c .before .before .before .before .before .args .to) (c .before .before .before .loop-test .taken) (bit-free bs i (c .if2 .taken)))
+    ∙ c .before .before .before .before .loop .inv
 
 add-i-2 : tie.Need-add-i-2 Inv-loop μ-loop
 add-i-2 c = omega arith
@@ -57,14 +57,14 @@ loop-less-2 c = omega arith
 
 loop-again-2 : tie.Need-loop-again-2 Inv-loop μ-loop
 loop-again-2 c =
-    let bs = c .before .before .before .before .args .t1 in
-    let i = c .before .before .before .loop .i in
+    let bs = c .before .before .before .before .before .args .pages .now in
+    let i = c .before .before .before .before .loop .i in
     rw (add-one i)
-    (sym (search-used (marksOf bs) i (c .before .before .before .before .args .to) (bit-used bs i (c .if2 .left)))
-    ∙ c .before .before .before .loop .inv)
+    (sym (search-used (marksOf bs) i (c .before .before .before .before .before .args .to) (bit-used bs i (c .if2 .left)))
+    ∙ c .before .before .before .before .loop .inv)
 
 returns-2 : tie.Need-returns-2 Inv-loop μ-loop
-returns-2 c = sym (search-end (marksOf (c .before .before .args .t1)) (c .before .loop .i) (c .before .before .args .to) (c .loop-test .left)) ∙ c .before .loop .inv
+returns-2 c = sym (search-end (marksOf (c .before .before .args .pages .now)) (c .before .loop .i) (c .before .before .args .to) (c .loop-test .left)) ∙ c .before .loop .inv
 
 pub free-between-spec : {M : Type 1} → statement M
 free-between-spec =
@@ -73,14 +73,14 @@ free-between-spec =
     Inv-loop
     μ-loop
     loop-holds
-    array-read-byte
+    shared-slice-read-byte
     add-i
     mul-i
     loop-less
     loop-again
     cast-if2
     shr-if2
-    cast-t19
+    cast-t17
     returns
     add-i-2
     loop-less-2

@@ -5,8 +5,8 @@ use Rattle.alloc.proofs.MarksLaws.{mark-is}
 use Rattle.alloc.proofs.marks.is_marked.Statement.{statement}
 use Rattle.alloc.proofs.marks.is_marked.Tie as tie
 
-array-read-result : tie.Need-array-read-result
-array-read-result c = search needs
+shared-slice-read-result : tie.Need-shared-slice-read-result
+shared-slice-read-result c = search needs
 
 cast-result : tie.Need-cast-result
 cast-result c = search needs
@@ -15,7 +15,7 @@ shr-result : tie.Need-shr-result
 shr-result c = search needs
 
 returns : tie.Need-returns
-returns c = sym (mark-is (c .args .t1) (c .args .page))
+returns c = sym (mark-is (c .before .args .pages .now) (c .before .args .page))
 
 pub is-marked-spec : {M : Type 1} → statement M
-is-marked-spec = tie.close (tie.spec array-read-result cast-result shr-result returns)
+is-marked-spec = tie.close (tie.spec shared-slice-read-result cast-result shr-result returns)

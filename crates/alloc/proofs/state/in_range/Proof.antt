@@ -15,7 +15,7 @@ none-from-requires c κs = search needs
 
 returns : tie.Need-returns
 unfolding inRange
-returns c = rw (c .before .before .before .next-fits .ensures, c .before .before .count-from .ensures, c .none-from .ensures)
+returns c = rw (c .before .before .before .before .before .before .before .before .next-fits .ensures, c .before .before .before .before .count-from .ensures, c .none-from .ensures)
 
 pub in-range-spec : {M : Type 1} → statement M
 in-range-spec =

@@ -30,7 +30,7 @@ enum-told c = search needs
 
 -- the check has passed
 abbrev self : tie.After-enum-told → Allocator
-self c = c .before .before .before .args .self
+self c = c .before .before .before .args .t1
 
 abbrev page : tie.After-enum-told → PageID
 page c = c .before .before .before .args .page
@@ -45,27 +45,27 @@ below : (c : tie.After-index) → c .index .result < maxPageCount
 below c = page-below (self (c .before)) (page (c .before)) (c .index .result) (fine (c .before)) (c .index .ensures)
 
 is-marked-requires : tie.Need-is-marked-requires
-is-marked-requires c κs = below (c .before)
+is-marked-requires c κs = (search needs, below (c .before .before .before))
 
 returns-2 : tie.Need-returns-2
 unfolding free
 returns-2 c =
-    let b = c .before .before .before in
+    let b = c .before .before .before .before .before in
     rw (fine (b .before), ← b .index .ensures, sym (c .before .is-marked .ensures) ∙ not-true _ (c .if1 .taken))
 
-used-here : (c : tie.Else1) → isMarked (self (c .before .before .before .before) .pages) (c .before .before .before .index .result) ≡ true
+used-here : (c : tie.Else1) → isMarked (self (c .before .before .before .before .before .before) .pages) (c .before .before .before .before .before .index .result) ≡ true
 used-here c = sym (c .before .is-marked .ensures) ∙ not-false _ (c .if1 .left)
 
 freed-requires : tie.Need-freed-requires
 freed-requires c κs =
-    let b = c .before .before .before in
+    let b = c .before .before .before .before .before in
     let a = self (b .before) in
     (below b, (used-here c, used-pos a (b .index .result) (fine-page a (page (b .before)) (fine (b .before)) .0) (used-here c)))
 
 returns-3 : tie.Need-returns-3
 unfolding free
 returns-3 c =
-    let b = c .before .before .before .before in
+    let b = c .before .before .before .before .before .before in
     rw (fine (b .before), ← b .index .ensures, used-here (c .before), c .freed .ensures)
 
 pub free-spec : {M : Type 1} → statement M

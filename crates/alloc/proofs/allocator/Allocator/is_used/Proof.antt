@@ -25,7 +25,7 @@ enum-told c = search needs
 
 -- the check has passed
 abbrev self : tie.After-enum-told → Allocator
-self c = c .before .before .before .args .self
+self c = c .before .before .before .args .t1
 
 abbrev page : tie.After-enum-told → PageID
 page c = c .before .before .before .args .page
@@ -38,18 +38,18 @@ index-requires c κs = search needs
 
 is-marked-requires : tie.Need-is-marked-requires
 is-marked-requires c κs =
-    let b = c .before .before in
-    page-below (self b) (page b) (c .index .result) (fine b) (c .index .ensures)
+    let b = c .before .before .before .before in
+    (search needs, page-below (self b) (page b) (c .index .result) (fine b) (c .index .ensures))
 
 returns-2 : tie.Need-returns-2
 unfolding isUsed
 returns-2 c =
-    rw (fine (c .before .before .before .before), ← c .before .before .index .ensures, sym (c .before .is-marked .ensures) ∙ c .if1 .taken)
+    rw (fine (c .before .before .before .before .before .before), ← c .before .before .index .ensures, sym (c .before .is-marked .ensures) ∙ c .if1 .taken)
 
 returns-3 : tie.Need-returns-3
 unfolding isUsed
 returns-3 c =
-    rw (fine (c .before .before .before .before), ← c .before .before .index .ensures, sym (c .before .is-marked .ensures) ∙ c .if1 .left)
+    rw (fine (c .before .before .before .before .before .before), ← c .before .before .index .ensures, sym (c .before .is-marked .ensures) ∙ c .if1 .left)
 
 pub is-used-spec : {M : Type 1} → statement M
 is-used-spec =

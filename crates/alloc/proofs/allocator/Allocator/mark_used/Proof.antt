@@ -30,7 +30,7 @@ enum-told c = search needs
 
 -- the check has passed
 abbrev self : tie.After-enum-told → Allocator
-self c = c .before .before .before .args .self
+self c = c .before .before .before .args .t1
 
 abbrev page : tie.After-enum-told → PageID
 page c = c .before .before .before .args .page
@@ -45,20 +45,20 @@ below : (c : tie.After-index) → c .index .result < maxPageCount
 below c = page-below (self (c .before)) (page (c .before)) (c .index .result) (fine (c .before)) (c .index .ensures)
 
 is-marked-requires : tie.Need-is-marked-requires
-is-marked-requires c κs = below (c .before)
+is-marked-requires c κs = (search needs, below (c .before .before .before))
 
 returns-2 : tie.Need-returns-2
 unfolding markUsed
 returns-2 c =
-    let b = c .before .before .before in
+    let b = c .before .before .before .before .before in
     rw (fine (b .before), ← b .index .ensures, sym (c .before .is-marked .ensures) ∙ c .if1 .taken)
 
-free-here : (c : tie.Else1) → isMarked (self (c .before .before .before .before) .pages) (c .before .before .before .index .result) ≡ false
+free-here : (c : tie.Else1) → isMarked (self (c .before .before .before .before .before .before) .pages) (c .before .before .before .before .before .index .result) ≡ false
 free-here c = sym (c .before .is-marked .ensures) ∙ c .if1 .left
 
 marked-requires : tie.Need-marked-requires
 marked-requires c κs =
-    let b = c .before .before .before in
+    let b = c .before .before .before .before .before in
     let a = self (b .before) in
     let r : InRange a = fine-page a (page (b .before)) (fine (b .before)) .0 in
     (below b, (free-here c, omega (arith, used-le a r, r .few)))
@@ -66,7 +66,7 @@ marked-requires c κs =
 returns-3 : tie.Need-returns-3
 unfolding markUsed
 returns-3 c =
-    let b = c .before .before .before .before in
+    let b = c .before .before .before .before .before .before in
     rw (fine (b .before), ← b .index .ensures, free-here (c .before), c .marked .ensures)
 
 pub mark-used-spec : {M : Type 1} → statement M

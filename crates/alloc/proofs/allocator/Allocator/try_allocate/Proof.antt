@@ -30,7 +30,7 @@ enum-told c = search needs
 
 -- the check has passed
 abbrev self : tie.After-enum-told → Allocator
-self c = c .before .before .before .args .self
+self c = c .before .before .before .args .t1
 
 fine : (c : tie.After-enum-told) → stateCheck (self c) ≡ Fine
 fine c = sym (c .before .before .state-check .ensures) ∙ c .enum-told .given .1
@@ -39,7 +39,9 @@ known : (c : tie.After-enum-told) → InRange (self c)
 known c = fine-state (self c) (fine c)
 
 first-free-requires : tie.Need-first-free-requires
-first-free-requires c κs = omega (arith, next-le (self (c .before)) (known (c .before)), known (c .before) .few)
+first-free-requires c κs =
+    let b = c .before .before .before in
+    (search needs, omega (arith, next-le (self b) (known b), known b .few))
 
 enum-known-page : tie.Need-enum-known-page
 enum-known-page c = search needs
@@ -49,14 +51,14 @@ enum-told-2 c = search needs
 
 returns-2 : tie.Need-returns-2
 unfolding tryAllocate
-returns-2 c = rw (fine (c .before .before .before .before), sym (c .before .before .first-free .ensures) ∙ c .enum-told2 .given .1)
+returns-2 c = rw (fine (c .before .before .before .before .before .before), sym (c .before .before .first-free .ensures) ∙ c .enum-told2 .given .1)
 
 index-requires : tie.Need-index-requires
 index-requires c κs = search needs
 
 -- a page is found
 abbrev checked : tie.After-index → tie.After-enum-told
-checked c = c .before .before .before .before .before .before
+checked c = c .before .before .before .before .before .before .before .before
 
 page-found : (c : tie.After-index) → found (self (checked c)) ≡ Some (c .before .before .page .given .0 .0)
 page-found c = sym (c .before .before .before .before .first-free .ensures) ∙ c .before .before .page .given .1
