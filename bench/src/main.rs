@@ -181,11 +181,22 @@ fn main() {
         std::process::exit(1);
     }
 
+    let (mut places, mut places2) = ([0; 256], [0; 256]);
+    let sides = vec![
+        side("the library", || ours::alloc_each(black_box(256), black_box(77), &mut places)),
+        side("the original", || theirs::alloc_each(black_box(256), black_box(77), &mut places2)),
+    ];
+    measure("256 pages allocated and freed", 100, rounds, sides);
+    if places != places2 || places[0] != 77 {
+        eprintln!("bench: the pages differ that were handed out");
+        std::process::exit(1);
+    }
+
     let sides = vec![
         side("the library", || ours::alloc_cycle(black_box(256), black_box(77))),
         side("the original", || theirs::alloc_cycle(black_box(256), black_box(77))),
     ];
-    measure("256 pages allocated and freed", 100, rounds, sides);
+    measure("the same, a call for each page", 100, rounds, sides);
 
     let runs = inputs::runs();
     let bytes = runs.concat();

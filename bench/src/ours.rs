@@ -3,6 +3,7 @@
 extern "C" {
     fn puffcradle_crc32(bytes: *const u8, count: usize) -> u32;
     fn puffcradle_alloc_cycle(count: usize, seed: u32) -> u64;
+    fn puffcradle_alloc_each(count: usize, seed: u32, places: *mut u16, places_len: usize) -> u64;
     fn puffcradle_read_page(
         flash: *const u8,
         flash_len: usize,
@@ -47,6 +48,10 @@ pub fn crc32(bytes: &[u8]) -> u32 {
 
 pub fn alloc_cycle(count: usize, seed: u32) -> u64 {
     unsafe { puffcradle_alloc_cycle(count, seed) }
+}
+
+pub fn alloc_each(count: usize, seed: u32, places: &mut [u16]) -> u64 {
+    unsafe { puffcradle_alloc_each(count, seed, places.as_mut_ptr(), places.len()) }
 }
 
 pub fn read_page(flash: &[u8], magic: u32, page: u16, header: &mut [u8], out: &mut [u8]) -> u64 {

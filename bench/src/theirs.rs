@@ -24,6 +24,20 @@ pub fn crc32(bytes: &[u8]) -> u32 {
     oracle::page::peek::crc32(bytes)
 }
 
+/// A page for each place, until there is none, and all of them freed.
+pub fn alloc_each(count: usize, seed: u32, places: &mut [u16]) -> u64 {
+    let mut a = Allocator::new();
+    a.reset(count, seed);
+    let mut n = 0;
+    while n < places.len() {
+        let Some(page) = a.try_allocate() else { break };
+        places[n] = page.index() as u16;
+        n += 1;
+    }
+    let refused = places[..n].iter().any(|&page| a.free(page_id(page)).is_err());
+    mixed(mixed(0, n as u64), refused.into())
+}
+
 pub fn alloc_cycle(count: usize, seed: u32) -> u64 {
     let mut a = Allocator::new();
     a.reset(count, seed);

@@ -10,5 +10,6 @@ pub mod RefusedLaws
 pub mod RoundLaws
 pub mod RowsHold
 pub mod SearchLaws
+pub mod SeveralLaws
 pub mod StateLaws
 pub mod TurnLaws

@@ -5,4 +5,5 @@ pub mod History
 pub mod Marks
 pub mod Rows
 pub mod Search
+pub mod Several
 pub mod State

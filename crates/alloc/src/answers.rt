@@ -30,7 +30,13 @@ pub struct Allocation {
     pub allocator: Allocator,
 }
 
-// Of reset, mark_used and free.
+// Of try_allocate_each: how many pages.
+pub struct Allocations {
+    pub answer: Count,
+    pub allocator: Allocator,
+}
+
+// Of reset, mark_used, free and free_each.
 pub enum Outcome {
     Done,
     Refused(Refusal),
@@ -71,7 +77,7 @@ impl Usage {
     }
 }
 
-// Of used_pages, free_pages and page_count.
+// Of used_pages, free_pages and page_count, and of try_allocate_each.
 pub enum Count {
     Pages(usize),
     Refused(Refusal),

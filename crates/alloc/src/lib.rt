@@ -3,4 +3,5 @@ pub mod allocator;
 pub mod answers;
 pub mod checks;
 mod marks;
+pub mod several;
 mod state;

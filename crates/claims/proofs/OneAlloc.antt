@@ -9,13 +9,15 @@ use Rattle.alloc.proofs.allocator.Allocator.used_pages.Reads.{Learnt as Allocat
 use Rattle.alloc.proofs.allocator.Allocator.free_pages.Reads.{Learnt as Allocator-free-pages}
 use Rattle.alloc.proofs.allocator.Allocator.page_count.Reads.{Learnt as Allocator-page-count}
 use Rattle.alloc.proofs.allocator.Allocator.margin.Reads.{Learnt as Allocator-margin}
+use Rattle.alloc.proofs.several.try_allocate_each.Reads.{Learnt as try-allocate-each}
+use Rattle.alloc.proofs.several.free_each.Reads.{Learnt as free-each}
 use Rattle.alloc.proofs.answers.Allocated.number.Reads.{Learnt as Allocated-number}
 use Rattle.alloc.proofs.answers.Outcome.number.Reads.{Learnt as Outcome-number}
 use Rattle.alloc.proofs.answers.Usage.number.Reads.{Learnt as Usage-number}
 use Rattle.alloc.proofs.answers.Count.number.Reads.{Learnt as Count-number}
 use Rattle.alloc.proofs.answers.Margin.number.Reads.{Learnt as Margin-number}
-use Rattle.claims.specs.Outcomes.{OneOutcome}
-use Rattle.claims.proofs.OutcomeLaws.{one}
+use Rattle.claims.specs.Outcomes.{OneOutcome, beside}
+use Rattle.claims.proofs.OutcomeLaws.{one, two}
 
 pub one-Allocator-new : OneOutcome Allocator-new (λ r e. r)
 one-Allocator-new k a r r′ e e′ p q = one p q
@@ -46,6 +48,12 @@ one-Allocator-page-count k a r r′ e e′ p q = one p q
 
 pub one-Allocator-margin : OneOutcome Allocator-margin (λ r e. r)
 one-Allocator-margin k a r r′ e e′ p q = one p q
+
+pub one-try-allocate-each : OneOutcome try-allocate-each (λ r e. beside r (e .1 .0 .now))
+one-try-allocate-each k a r r′ e e′ p q = two p q
+
+pub one-free-each : OneOutcome free-each (λ r e. r)
+one-free-each k a r r′ e e′ p q = one p q
 
 pub one-Allocated-number : OneOutcome Allocated-number (λ r e. r)
 one-Allocated-number k a r r′ e e′ p q = one p q

@@ -1,5 +1,6 @@
 -- One outcome for every function of `exports` that is open to callers: each line cites the function's own promise. Assumes nothing.
 use Rattle.exports.proofs.allocating.puffcradle_alloc_cycle.Reads.{Learnt as puffcradle-alloc-cycle}
+use Rattle.exports.proofs.several.puffcradle_alloc_each.Reads.{Learnt as puffcradle-alloc-each}
 use Rattle.exports.proofs.merging.puffcradle_merge.Reads.{Learnt as puffcradle-merge}
 use Rattle.exports.proofs.reading.puffcradle_read_page.Reads.{Learnt as puffcradle-read-page}
 use Rattle.exports.proofs.sums.puffcradle_crc32.Reads.{Learnt as puffcradle-crc32}
@@ -9,6 +10,9 @@ use Rattle.claims.proofs.OutcomeLaws.{one, two, three}
 
 pub one-puffcradle-alloc-cycle : OneOutcome puffcradle-alloc-cycle (λ r e. r)
 one-puffcradle-alloc-cycle k a r r′ e e′ p q = one p q
+
+pub one-puffcradle-alloc-each : OneOutcome puffcradle-alloc-each (λ r e. beside r (e .1 .1 .0 .now))
+one-puffcradle-alloc-each k a r r′ e e′ p q = two p q
 
 pub one-puffcradle-merge : OneOutcome puffcradle-merge (λ r e. beside r (beside (e .1 .1 .1 .0 .now) (e .1 .1 .1 .1 .0 .now)))
 one-puffcradle-merge k a r r′ e e′ p q = three p q

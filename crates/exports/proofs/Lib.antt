@@ -1,4 +1,5 @@
 mod AllocationLaws
 mod MergingLaws
 mod ReadingLaws
+mod SeveralLaws
 mod WritingLaws

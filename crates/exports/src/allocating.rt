@@ -75,7 +75,7 @@ fn free_all(start: Tally) -> Tally
     t
 }
 
-fn begun(count: usize, seed: u32) -> Tally
+pub(crate) fn begun(count: usize, seed: u32) -> Tally
     ensures answers { λ r. ⌜ r ≡ begun count seed ⌝ }
 {
     let change = Allocator::new().reset(count, seed);

@@ -2,6 +2,7 @@
 pub mod allocating;
 pub mod merging;
 pub mod reading;
+pub mod several;
 pub mod sums;
 mod telling;
 pub mod writing;

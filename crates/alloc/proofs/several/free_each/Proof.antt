@@ -1,0 +1,121 @@
+-- `alloc::several::free_each` meets its contract. Assumes nothing.
+use mathlib.Core.Path.{_≡_, sym, _∙_}
+use mathlib.Core.Bool.{true}
+use Prim.Native.Nat.{_-_}
+use native.Mathlib.Omega.{arith}
+use lib.ListN.{length, getD}
+use borrow.Author.Needs.{needs}
+use borrow.Author.Tests.{not-true, not-false}
+use Rattle.types.specs.declared.refusal.Verdict.the-variants.{Fine}
+use Rattle.alloc.specs.Checks.{stateCheck}
+use Rattle.alloc.specs.Marks.{isMarked}
+use Rattle.alloc.specs.declared.allocator.Allocator.{Allocator}
+use Rattle.alloc.proofs.SeveralLaws.{stateOf, Freeing, free-begun, free-on, past, free-already, all-freed, refused-free}
+use Rattle.alloc.proofs.StateLaws.{InRange, fine-state, used-pos}
+use Rattle.alloc.proofs.several.free_each.Statement.{statement}
+use Rattle.alloc.proofs.several.free_each.Tie as tie
+
+abbrev Inv-loop : tie.InvT-loop
+Inv-loop a freed pages₀ used₀ i₀ pages used i = Freeing a freed i (stateOf (a .«page_count») pages used (a .«next_page_id»))
+
+abbrev μ-loop : tie.MeasureT-loop
+μ-loop a freed pages₀ used₀ i₀ pages used i = length freed - i
+
+state-check-requires : tie.Need-state-check-requires Inv-loop μ-loop
+state-check-requires c κs = search needs
+
+enum-known-no : tie.Need-enum-known-no Inv-loop μ-loop
+enum-known-no c = search needs
+
+returns : tie.Need-returns Inv-loop μ-loop
+returns c = refused-free _ _ _ (sym (c .before .before .before .state-check .ensures) ∙ c .before .no .given .1)
+
+enum-told : tie.Need-enum-told Inv-loop μ-loop
+enum-told c = search needs
+
+-- the check has passed
+fine : (c : tie.After-enum-told Inv-loop μ-loop) → stateCheck (c .before .before .before .before .args .a) ≡ Fine
+fine c = sym (c .before .before .state-check .ensures) ∙ c .enum-told .given .1
+
+loop-holds : tie.Need-loop-holds Inv-loop μ-loop
+loop-holds c = free-begun _ _ (search needs, fine-state _ (fine (c .before)))
+
+mul-p : tie.Need-mul-p Inv-loop μ-loop
+mul-p c = omega (arith, c .before .before .before .before .before .before .before .good, c .loop-test .taken)
+
+shared-slice-read-p : tie.Need-shared-slice-read-p Inv-loop μ-loop
+shared-slice-read-p c = c .before .loop-test .taken
+
+cast-p : tie.Need-cast-p Inv-loop μ-loop
+cast-p c = omega (arith, c .shared-slice-known2 .given (c .before .before .loop .i))
+
+returns-2 : tie.Need-returns-2 Inv-loop μ-loop
+returns-2 c = past _ _ _ _ (c .before .before .before .before .loop .inv) (fine (c .before .before .before .before .before .before)) (c .before .before .before .loop-test .taken) (c .if1 .taken)
+
+slice-aggregate-is-marked : tie.Need-slice-aggregate-is-marked Inv-loop μ-loop
+slice-aggregate-is-marked c = search needs
+
+-- the allocator of a turn
+abbrev this : tie.At-loop Inv-loop μ-loop → Allocator
+this c = stateOf (c .before .before .before .before .before .before .args .a .«page_count») (c .loop .pages) (c .loop .used) (c .before .before .before .before .before .before .args .a .«next_page_id»)
+
+known : (c : tie.At-loop Inv-loop μ-loop) → InRange (this c)
+known c = c .loop .inv .sound .1
+
+is-marked-requires : tie.Need-is-marked-requires Inv-loop μ-loop
+is-marked-requires c κs = (search needs, omega (arith, c .before .if1 .left, known (c .before .before .before .before .before) .few))
+
+returns-3 : tie.Need-returns-3 Inv-loop μ-loop
+returns-3 c =
+    free-already _ _ _ _ (c .before .before .before .before .before .before .before .loop .inv) (fine (c .before .before .before .before .before .before .before .before .before)) (c .before .before .before .before .before .before .loop-test .taken) (c .before .before .before .if1 .left) (sym (c .before .is-marked .ensures) ∙ not-true _ (c .if2 .taken))
+
+slice-aggregate-unmark : tie.Need-slice-aggregate-unmark Inv-loop μ-loop
+slice-aggregate-unmark c = search needs
+
+-- the page is used
+used-here : (c : tie.Else2 Inv-loop μ-loop) → isMarked (c .before .before .before .before .before .before .before .loop .pages) (getD (c .before .before .before .before .before .before .before .before .before .before .before .before .before .args .freed .now) (c .before .before .before .before .before .before .before .loop .i) 0) ≡ true
+used-here c = sym (c .before .is-marked .ensures) ∙ not-false _ (c .if2 .left)
+
+unmark-requires : tie.Need-unmark-requires Inv-loop μ-loop
+unmark-requires c κs = (search needs, (omega (arith, c .before .before .before .before .if1 .left, known (c .before .before .before .before .before .before .before .before) .few), used-here (c .before)))
+
+sub-used : tie.Need-sub-used Inv-loop μ-loop
+sub-used c = used-pos (this (c .before .before .before .before .before .before .before .before .before .before)) _ (known (c .before .before .before .before .before .before .before .before .before .before)) (used-here (c .before .before .before))
+
+add-i : tie.Need-add-i Inv-loop μ-loop
+add-i c = omega (arith, c .before .before .before .before .before .before .before .before .before .before .before .before .before .before .before .before .good, c .before .before .before .before .before .before .before .before .before .loop-test .taken)
+
+loop-less : tie.Need-loop-less Inv-loop μ-loop
+loop-less c = omega (arith, c .before .before .before .before .before .before .before .before .before .loop-test .taken)
+
+loop-again : tie.Need-loop-again Inv-loop μ-loop
+loop-again c = free-on _ _ _ _ (c .before .before .before .before .before .before .before .before .before .before .loop .inv) _ (c .before .before .before .before .before .before .before .before .before .loop-test .taken) (c .before .before .before .before .before .before .if1 .left) (used-here (c .before .before .before)) (c .before .unmark .ensures)
+
+returns-4 : tie.Need-returns-4 Inv-loop μ-loop
+returns-4 c = all-freed _ _ _ _ (c .before .loop .inv) (fine (c .before .before .before)) (c .loop-test .left)
+
+pub free-each-spec : {M : Type 1} → statement M
+free-each-spec =
+    tie.close
+    (tie.spec
+    Inv-loop
+    μ-loop
+    state-check-requires
+    enum-known-no
+    returns
+    enum-told
+    loop-holds
+    mul-p
+    shared-slice-read-p
+    cast-p
+    returns-2
+    slice-aggregate-is-marked
+    is-marked-requires
+    returns-3
+    slice-aggregate-unmark
+    unmark-requires
+    sub-used
+    add-i
+    loop-less
+    loop-again
+    returns-4)

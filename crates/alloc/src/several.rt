@@ -1,0 +1,106 @@
+// Several pages by one call. It answers as calls one after the other would, and checks the state once.
+// Pages go and come as raw numbers, since a slice cannot hold a struct.
+ghost use mathlib.Core.Path.{_≡_};
+ghost use lib.ListN.{length};
+ghost use Prim.Native.Nat.{_≤_, _<_};
+ghost use Rattle.types.specs.Build.{maxPageCount};
+ghost use Rattle.alloc.specs.Several.{allocateEach, placesAfter, freeEach};
+use super::allocator::Allocator;
+use super::answers::Allocations;
+use super::answers::Change;
+use super::answers::Count;
+use super::answers::Outcome;
+use super::checks;
+use super::marks;
+use super::state;
+use types::page_id::MaybePageID;
+use types::refusal::Refusal;
+use types::refusal::Verdict;
+
+// A page for each place, until none is free. The places behind the last page stay.
+pub fn try_allocate_each(a: Allocator, places: &mut [u16]) -> Allocations
+    ensures answers { λ r. ⌜ r ≡ allocateEach a (length (now (places .entry))) ⌝ }
+    ensures bytes { λ _. ⌜ now (places .exit) ≡ placesAfter a (now (places .entry)) ⌝ }
+{
+    if let Verdict::Refused(no) = checks::state_check(a) {
+        return Allocations {
+            answer: Count::Refused(no),
+            allocator: a,
+        };
+    }
+    let count = a.page_count;
+    let mut pages = a.pages;
+    let mut used = a.used;
+    let mut next = a.next_page_id;
+    let mut i: usize = 0;
+    while i < places.len() {
+        let MaybePageID::Some(page) = marks::first_free(&pages, next, count) else {
+            return Allocations {
+                answer: Count::Pages(i),
+                allocator: Allocator {
+                    page_count: count,
+                    pages,
+                    used,
+                    next_page_id: next,
+                },
+            };
+        };
+        let p = page.index();
+        marks::mark(&mut pages, p);
+        used += 1;
+        next = state::page_past(p, count);
+        places[i] = page.0;
+        i += 1;
+    }
+    Allocations {
+        answer: Count::Pages(i),
+        allocator: Allocator {
+            page_count: count,
+            pages,
+            used,
+            next_page_id: next,
+        },
+    }
+}
+
+// Each of these pages free again, or none of them where one cannot be freed.
+pub fn free_each(a: Allocator, freed: &[u16]) -> Change
+    ensures answers { λ r. ⌜ r ≡ freeEach a (now (freed .entry)) ⌝ }
+{
+    if let Verdict::Refused(no) = checks::state_check(a) {
+        return Change {
+            answer: Outcome::Refused(no),
+            allocator: a,
+        };
+    }
+    let mut pages = a.pages;
+    let mut used = a.used;
+    let mut i: usize = 0;
+    while i < freed.len() {
+        let p = freed[i] as usize;
+        if a.page_count <= p {
+            return Change {
+                answer: Outcome::Refused(Refusal::OutOfRange),
+                allocator: a,
+            };
+        }
+        if !marks::is_marked(&pages, p) {
+            return Change {
+                answer: Outcome::Refused(Refusal::Corrupted),
+                allocator: a,
+            };
+        }
+        marks::unmark(&mut pages, p);
+        used -= 1;
+        i += 1;
+    }
+    Change {
+        answer: Outcome::Done,
+        allocator: Allocator {
+            page_count: a.page_count,
+            pages,
+            used,
+            next_page_id: a.next_page_id,
+        },
+    }
+}

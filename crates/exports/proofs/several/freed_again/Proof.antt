@@ -1,0 +1,38 @@
+-- `exports::several::freed_again` meets its contract. Assumes nothing.
+use Rattle.exports.proofs.SeveralLaws.{freed-by}
+use borrow.Author.Needs.{needs}
+use Rattle.exports.proofs.several.freed_again.Statement.{statement}
+use Rattle.exports.proofs.several.freed_again.Tie as tie
+
+least-requires : tie.Need-least-requires
+least-requires c κs = search needs
+
+sub-free-each : tie.Need-sub-free-each
+sub-free-each c = search needs
+
+part-free-each-start : tie.Need-part-free-each-start
+part-free-each-start c = search needs
+
+part-free-each-end : tie.Need-part-free-each-end
+part-free-each-end c = search needs
+
+free-each-requires : tie.Need-free-each-requires
+free-each-requires c κs = search needs
+
+number-requires : tie.Need-number-requires
+number-requires c κs = search needs
+
+returns : tie.Need-returns
+returns c = freed-by _ _ _ _ _ (c .before .free-each .result) (c .before .before .before .least .ensures) (c .before .free-each .ensures) (c .number .ensures)
+
+pub freed-again-spec : {M : Type 1} → statement M
+freed-again-spec =
+    tie.close
+    (tie.spec
+    least-requires
+    sub-free-each
+    part-free-each-start
+    part-free-each-end
+    free-each-requires
+    number-requires
+    returns)
