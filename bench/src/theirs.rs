@@ -35,7 +35,7 @@ pub fn alloc_each(count: usize, seed: u32, places: &mut [u16]) -> u64 {
         n += 1;
     }
     let refused = places[..n].iter().any(|&page| a.free(page_id(page)).is_err());
-    mixed(mixed(0, n as u64), refused.into())
+    mixed(mixed(mixed(0, n as u64), refused.into()), a.free_pages() as u64)
 }
 
 pub fn alloc_cycle(count: usize, seed: u32) -> u64 {

@@ -15,12 +15,18 @@ use Rattle.types.specs.declared.page_id.MaybePageID.the-variants.{None, Some}
 use Rattle.alloc.specs.Calls as calls
 use Rattle.alloc.specs.Calls.{found, changeAfter, allocationAfter, handingOut}
 use Rattle.alloc.specs.Checks.{stateCheck, pageCheck, countCheck}
-use Rattle.alloc.specs.History.{Call, reset, tryAllocate, markUsed, free, isUsed, usedPages, freePages, pageCount, margin, leftBy, leftAfter}
+use Rattle.alloc.specs.History.{Call, reset, tryAllocate, markUsed, free, isUsed, usedPages, freePages, pageCount, margin, tryAllocateEach, freeEach, leftBy, leftAfter}
 use Rattle.alloc.specs.Marks.{bitsOf, marksOf, isMarked, countOf, marking, freeing}
+use Rattle.alloc.specs.Several as several
+use Rattle.alloc.specs.Several.{Handed, thenFurther, handedBy, allocationsAfter, onward, freeOn}
 use Rattle.alloc.specs.State.{allFree, marked, freed, movedPast, Sized, inRange}
 use Rattle.alloc.specs.declared.allocator.Allocator.{Allocator}
+use Rattle.alloc.specs.declared.answers.Allocated.{Allocated}
+use Rattle.alloc.specs.declared.answers.Allocated.the-variants as allocated
 use Rattle.alloc.specs.declared.answers.Allocation.{Allocation}
 use Rattle.alloc.specs.declared.answers.Change.{Change}
+use Rattle.alloc.specs.declared.answers.Outcome.{Outcome}
+use Rattle.alloc.specs.declared.answers.Outcome.the-variants as outcome
 use Rattle.types.specs.declared.refusal.Verdict.{Verdict}
 use Rattle.types.specs.declared.refusal.Verdict.the-variants.{Fine, Refused}
 use Rattle.alloc.proofs.HandedLaws.{found-free}
@@ -100,28 +106,67 @@ handed : (P : Allocator → Type 0) (a : Allocator) (found : MaybePageID) → P 
 handed P a None p f = p
 handed P a (Some page) p f = f page refl
 
--- whatever is called, used stays the number of marks, and none comes to lie at or past the count
-pub kept : (a : Allocator) (c : Call) → Sound a → Sound (leftBy a c)
-unfolding leftBy calls.reset calls.tryAllocate calls.markUsed calls.free
-kept a (reset count seed) s =
-    after-change Sound (countCheck count) a (calls.done (allFree count (seed % count))) s
-    (λ e. let f = fine-count count e in (refl, allFree-in count (seed % count) (f .1) (inl (mod-lt seed (f .0)))))
-kept a tryAllocate s = after-allocation Sound (stateCheck a) a _ s (λ e. handed Sound a (found a) s (λ page f.
+allocated-kept : (a : Allocator) → Sound a → Sound (calls.tryAllocate a .allocator)
+unfolding calls.tryAllocate
+allocated-kept a s = after-allocation Sound (stateCheck a) a _ s (λ e. handed Sound a (found a) s (λ page f.
     let p = page .0 in
     let here = found-free a page p (s .1) f refl in
     let size = marked-sized a p (s .0) in
     (size, movedPast-in (marked a p) p size (marked-in a p (s .0) (s .1) (here .0) (here .1)) (here .0))))
+
+freed-kept : (a : Allocator) (p : ℕ) → Sound a → Sound (calls.free a (record { 0 = p }) .allocator)
+unfolding calls.free
+freed-kept a p s = after-change Sound (pageCheck a (record { 0 = p })) a _ s (λ e.
+    let below = fine-page a (record { 0 = p }) e .1 in
+    either Sound (isMarked (a .pages) p) _ _ (λ m. (freed-sized a p (s .0), freed-in a p (s .0) (s .1) below m)) (λ m. s))
+
+-- ---- calls for several pages
+
+further-kept : (x : Allocated) (a : Allocator) (h : Handed) → Sound a → Sound (h .allocator) → Sound (thenFurther x a h .allocator)
+further-kept (allocated.Page page) a h s t = t
+further-kept allocated.None a h s t = s
+further-kept (allocated.Refused why) a h s t = s
+
+handed-kept : (n : ℕ) (a : Allocator) → Sound a → Sound (handedBy n a .allocator)
+unfolding handedBy
+handed-kept zero a s = s
+handed-kept (suc n) a s =
+    further-kept (calls.tryAllocate a .answer) a _ s (handed-kept n (calls.tryAllocate a .allocator) (allocated-kept a s))
+
+after-allocations : (k : Verdict) (a : Allocator) (h : Handed) → Sound a → Sound (h .allocator) → Sound (allocationsAfter k a h .allocator)
+after-allocations (Refused why) a h s t = s
+after-allocations Fine a h s t = t
+
+onward-kept : (x : Outcome) (start : Allocator) (c : Change) → Sound start → Sound (c .allocator) → Sound (onward x start c .allocator)
+onward-kept outcome.Done start c s t = t
+onward-kept (outcome.Refused why) start c s t = s
+
+freeOn-kept : (start : Allocator) (pages : List ℕ) (a : Allocator) → Sound start → Sound a → Sound (freeOn start pages a .allocator)
+unfolding freeOn
+freeOn-kept start [] a s t = t
+freeOn-kept start (p ∷ ps) a s t =
+    onward-kept (calls.free a (record { 0 = p }) .answer) start _ s (freeOn-kept start ps (calls.free a (record { 0 = p }) .allocator) s (freed-kept a p t))
+
+-- ---- any call
+
+-- whatever is called, used stays the number of marks, and none comes to lie at or past the count
+pub kept : (a : Allocator) (c : Call) → Sound a → Sound (leftBy a c)
+unfolding leftBy calls.reset calls.markUsed several.allocateEach several.freeEach
+kept a (reset count seed) s =
+    after-change Sound (countCheck count) a (calls.done (allFree count (seed % count))) s
+    (λ e. let f = fine-count count e in (refl, allFree-in count (seed % count) (f .1) (inl (mod-lt seed (f .0)))))
+kept a tryAllocate s = allocated-kept a s
 kept a (markUsed p) s = after-change Sound (pageCheck a (record { 0 = p })) a _ s (λ e.
     let below = fine-page a (record { 0 = p }) e .1 in
     either Sound (isMarked (a .pages) p) _ _ (λ m. s) (λ m. (marked-sized a p (s .0), marked-in a p (s .0) (s .1) below m)))
-kept a (free p) s = after-change Sound (pageCheck a (record { 0 = p })) a _ s (λ e.
-    let below = fine-page a (record { 0 = p }) e .1 in
-    either Sound (isMarked (a .pages) p) _ _ (λ m. (freed-sized a p (s .0), freed-in a p (s .0) (s .1) below m)) (λ m. s))
+kept a (free p) s = freed-kept a p s
 kept a (isUsed p) s = s
 kept a usedPages s = s
 kept a freePages s = s
 kept a pageCount s = s
 kept a (margin wanted) s = s
+kept a (tryAllocateEach n) s = after-allocations (stateCheck a) a (handedBy n a) s (handed-kept n a s)
+kept a (freeEach pages) s = after-change Sound (stateCheck a) a _ s (λ e. freeOn-kept a pages a s s)
 
 -- the same, of the test that the code makes
 pub range-kept : (a : Allocator) (c : Call) → Sized a → inRange a ≡ true → inRange (leftBy a c) ≡ true

@@ -1,18 +1,23 @@
 -- A refused call leaves the allocator as it was. Assumes nothing.
 use mathlib.Core.Path.{_≡_, refl}
 use mathlib.Core.Bool.{Bool, true, false, cond}
-use Prim.Native.Nat.{_%_}
+use mathlib.Core.List.{List, [], _∷_}
+use Prim.Native.Nat.{ℕ, _%_}
 use Rattle.types.specs.declared.page_id.MaybePageID.{MaybePageID}
 use Rattle.types.specs.declared.page_id.MaybePageID.the-variants.{None, Some}
 use Rattle.alloc.specs.Answers.{outcomeTold, allocatedTold}
 use Rattle.alloc.specs.Calls as calls
 use Rattle.alloc.specs.Calls.{found, done, corrupted, changeAfter, allocationAfter, handingOut}
 use Rattle.alloc.specs.Checks.{stateCheck, pageCheck, countCheck}
-use Rattle.alloc.specs.History.{Call, reset, tryAllocate, markUsed, free, isUsed, usedPages, freePages, pageCount, margin, answerTo, leftBy}
+use Rattle.alloc.specs.History.{Call, reset, tryAllocate, markUsed, free, isUsed, usedPages, freePages, pageCount, margin, tryAllocateEach, freeEach, pagesTold, answerTo, leftBy}
 use Rattle.alloc.specs.Marks.{isMarked}
+use Rattle.alloc.specs.Several as several
+use Rattle.alloc.specs.Several.{Handed, handedBy, allocationsAfter, onward, freeOn}
 use Rattle.alloc.specs.State.{allFree, marked, freed}
 use Rattle.alloc.specs.declared.allocator.Allocator.{Allocator}
 use Rattle.alloc.specs.declared.answers.Change.{Change}
+use Rattle.alloc.specs.declared.answers.Outcome.{Outcome}
+use Rattle.alloc.specs.declared.answers.Outcome.the-variants as outcome
 use Rattle.types.specs.declared.refusal.Verdict.{Verdict}
 use Rattle.types.specs.declared.refusal.Verdict.the-variants.{Fine, Refused}
 
@@ -43,8 +48,24 @@ handed-honest (Refused why) a m n = refl
 handed-honest Fine a None n = refl
 handed-honest Fine a (Some page) n = absurd (n refl)
 
+each-honest : (k : Verdict) (a : Allocator) (h : Handed) (pages : List ℕ) → (pagesTold (allocationsAfter k a h .answer) pages .number ≡ 0 → ⊥)
+    → allocationsAfter k a h .allocator ≡ a
+each-honest (Refused why) a h pages n = refl
+each-honest Fine a h pages n = absurd (n refl)
+
+onward-honest : (x : Outcome) (start : Allocator) (c : Change) → Honest start c → Honest start (onward x start c)
+unfolding Honest
+onward-honest outcome.Done start c h = h
+onward-honest (outcome.Refused why) start c h = λ n. refl
+
+freeOn-honest : (start : Allocator) (pages : List ℕ) (a : Allocator) → Honest start (freeOn start pages a)
+unfolding freeOn
+freeOn-honest start [] a = done-honest start a
+freeOn-honest start (p ∷ ps) a =
+    onward-honest (calls.free a (record { 0 = p }) .answer) start _ (freeOn-honest start ps (calls.free a (record { 0 = p }) .allocator))
+
 pub refused-kept : (a : Allocator) (c : Call) → (answerTo a c .number ≡ 0 → ⊥) → leftBy a c ≡ a
-unfolding answerTo leftBy calls.reset calls.tryAllocate calls.markUsed calls.free Honest
+unfolding answerTo leftBy calls.reset calls.tryAllocate calls.markUsed calls.free several.allocateEach several.freeEach Honest
 refused-kept a (reset count seed) n = checked (countCheck count) a _ (done-honest a (allFree count (seed % count))) n
 refused-kept a tryAllocate n = handed-honest (stateCheck a) a (found a) n
 refused-kept a (markUsed p) n =
@@ -56,3 +77,5 @@ refused-kept a usedPages n = refl
 refused-kept a freePages n = refl
 refused-kept a pageCount n = refl
 refused-kept a (margin wanted) n = refl
+refused-kept a (tryAllocateEach k) n = each-honest (stateCheck a) a (handedBy k a) (handedBy k a .pages) n
+refused-kept a (freeEach pages) n = checked (stateCheck a) a _ (freeOn-honest a pages a) n

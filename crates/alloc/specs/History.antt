@@ -1,9 +1,13 @@
 -- Calls one after another, each on the allocator that the one before left. Assumes nothing.
-use mathlib.Core.List.{List, [], _∷_}
+use mathlib.Core.List.{List, [], _∷_, map}
 use Prim.Native.Nat.{ℕ}
-use Rattle.alloc.specs.Answers.{Told, allocatedTold, outcomeTold, usageTold, countTold, marginTold}
+use lib.IntN.{pos}
+use Rattle.alloc.specs.Answers.{Told, refusal, allocatedTold, outcomeTold, usageTold, countTold, marginTold}
 use Rattle.alloc.specs.Calls as calls
+use Rattle.alloc.specs.Several as several
 use Rattle.alloc.specs.declared.allocator.Allocator.{Allocator}
+use Rattle.alloc.specs.declared.answers.Count.{Count}
+use Rattle.alloc.specs.declared.answers.Count.the-variants.{Pages, Refused}
 
 -- a call, with its arguments
 pub data Call : Type 0 where
@@ -12,6 +16,13 @@ pub data Call : Type 0 where
   markUsed free isUsed : ℕ → Call
   usedPages freePages pageCount : Call
   margin : ℕ → Call
+  tryAllocateEach : ℕ → Call
+  freeEach : List ℕ → Call
+
+-- how many pages, and then each of them
+abbrev pub pagesTold : Count → List ℕ → Told
+pagesTold (Pages n) pages = record { number = 0; values = pos n ∷ map pos pages }
+pagesTold (Refused why) pages = refusal why
 
 -- what it answers
 unfoldable pub answerTo : Allocator → Call → Told
@@ -24,6 +35,8 @@ answerTo a usedPages = countTold (calls.usedPages a)
 answerTo a freePages = countTold (calls.freePages a)
 answerTo a pageCount = countTold (calls.pageCount a)
 answerTo a (margin wanted) = marginTold (calls.marginOf a wanted)
+answerTo a (tryAllocateEach n) = pagesTold (several.allocateEach a n .answer) (several.handedBy n a .pages)
+answerTo a (freeEach pages) = outcomeTold (several.freeEach a pages .answer)
 
 -- the allocator that it leaves
 unfoldable pub leftBy : Allocator → Call → Allocator
@@ -36,6 +49,8 @@ leftBy a usedPages = a
 leftBy a freePages = a
 leftBy a pageCount = a
 leftBy a (margin wanted) = a
+leftBy a (tryAllocateEach n) = several.allocateEach a n .allocator
+leftBy a (freeEach pages) = several.freeEach a pages .allocator
 
 -- the same of a history of calls
 unfoldable pub answersTo : Allocator → List Call → List Told

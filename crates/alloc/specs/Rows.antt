@@ -1,8 +1,10 @@
--- Document 01's starred rows about the allocator, as data: calls on a new allocator, and what they answer. Assumes nothing.
+-- Document 01's starred rows about the allocator, as data: calls on a new allocator, and what they answer; and rows of the calls for
+-- several pages, on the same numbers. Assumes nothing.
 use mathlib.Core.List.{List, [], _∷_}
 use lib.IntN.{pos, negsuc}
-use Rattle.alloc.specs.Answers.{Told, nothing, value}
-use Rattle.alloc.specs.History.{Call, reset, tryAllocate, free, freePages, margin, answersTo}
+use Rattle.types.specs.declared.refusal.Refusal.the-variants.{Corrupted, OutOfRange}
+use Rattle.alloc.specs.Answers.{Told, nothing, value, refusal}
+use Rattle.alloc.specs.History.{Call, reset, tryAllocate, free, freePages, margin, tryAllocateEach, freeEach, answersTo}
 use Rattle.alloc.specs.State.{allFree}
 
 pub record Row : Type 0 where
@@ -31,3 +33,43 @@ tooFew =
 
 abbrev pub rows : List Row
 rows = inTurn ∷ tooFew ∷ []
+
+-- ---- several pages
+
+-- reset(4, 7), and six places: pages 3, 0, 1, 2; page 1 freed by itself is the next one
+abbrev pub eachInTurn : Row
+eachInTurn =
+    record {
+      calls = reset 4 7 ∷ tryAllocateEach 6 ∷ tryAllocateEach 1 ∷ freeEach (1 ∷ []) ∷ tryAllocateEach 0 ∷ tryAllocateEach 2 ∷ [];
+      answers =
+          nothing
+          ∷ record { number = 0; values = pos 4 ∷ pos 3 ∷ pos 0 ∷ pos 1 ∷ pos 2 ∷ [] }
+          ∷ value (pos 0)
+          ∷ nothing
+          ∷ value (pos 0)
+          ∷ record { number = 0; values = pos 1 ∷ pos 1 ∷ [] }
+          ∷ [];
+    }
+
+-- a page twice is 1, a page that is not there is 4, whichever comes first, and then no page is freed
+abbrev pub allOrNone : Row
+allOrNone =
+    record {
+      calls =
+          reset 4 7 ∷ tryAllocateEach 4 ∷ freeEach (0 ∷ 2 ∷ 0 ∷ []) ∷ freeEach (0 ∷ 4 ∷ []) ∷ freeEach (0xFFFF ∷ 0 ∷ 0 ∷ []) ∷ freePages
+          ∷ freeEach (3 ∷ 0 ∷ []) ∷ freeEach [] ∷ freePages ∷ [];
+      answers =
+          nothing
+          ∷ record { number = 0; values = pos 4 ∷ pos 3 ∷ pos 0 ∷ pos 1 ∷ pos 2 ∷ [] }
+          ∷ refusal Corrupted
+          ∷ refusal OutOfRange
+          ∷ refusal OutOfRange
+          ∷ value (pos 0)
+          ∷ nothing
+          ∷ nothing
+          ∷ value (pos 2)
+          ∷ [];
+    }
+
+abbrev pub severalRows : List Row
+severalRows = eachInTurn ∷ allOrNone ∷ []

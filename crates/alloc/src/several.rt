@@ -1,10 +1,10 @@
 // Several pages by one call. It answers as calls one after the other would, and checks the state once.
-// Pages go and come as raw numbers, since a slice cannot hold a struct.
+// Pages go and come as raw numbers: a function over a slice of structs would have to be proved by hand.
 ghost use mathlib.Core.Path.{_≡_};
 ghost use lib.ListN.{length};
-ghost use Prim.Native.Nat.{_≤_, _<_};
-ghost use Rattle.types.specs.Build.{maxPageCount};
 ghost use Rattle.alloc.specs.Several.{allocateEach, placesAfter, freeEach};
+ghost use Rattle.alloc.specs.declared.answers.Count.the-variants.{Pages};
+ghost use Rattle.alloc.specs.declared.answers.Outcome.the-variants.{Refused};
 use super::allocator::Allocator;
 use super::answers::Allocations;
 use super::answers::Change;
@@ -16,6 +16,24 @@ use super::state;
 use types::page_id::MaybePageID;
 use types::refusal::Refusal;
 use types::refusal::Verdict;
+
+fn handed(n: usize, left: Allocator) -> Allocations
+    ensures answers { λ r. ⌜ r ≡ record { answer = Pages n; allocator = left } ⌝ }
+{
+    Allocations {
+        answer: Count::Pages(n),
+        allocator: left,
+    }
+}
+
+fn refused(no: Refusal, start: Allocator) -> Change
+    ensures answers { λ r. ⌜ r ≡ record { answer = Refused no; allocator = start } ⌝ }
+{
+    Change {
+        answer: Outcome::Refused(no),
+        allocator: start,
+    }
+}
 
 // A page for each place, until none is free. The places behind the last page stay.
 pub fn try_allocate_each(a: Allocator, places: &mut [u16]) -> Allocations
@@ -35,15 +53,15 @@ pub fn try_allocate_each(a: Allocator, places: &mut [u16]) -> Allocations
     let mut i: usize = 0;
     while i < places.len() {
         let MaybePageID::Some(page) = marks::first_free(&pages, next, count) else {
-            return Allocations {
-                answer: Count::Pages(i),
-                allocator: Allocator {
+            return handed(
+                i,
+                Allocator {
                     page_count: count,
                     pages,
                     used,
                     next_page_id: next,
                 },
-            };
+            );
         };
         let p = page.index();
         marks::mark(&mut pages, p);
@@ -52,15 +70,15 @@ pub fn try_allocate_each(a: Allocator, places: &mut [u16]) -> Allocations
         places[i] = page.0;
         i += 1;
     }
-    Allocations {
-        answer: Count::Pages(i),
-        allocator: Allocator {
+    handed(
+        i,
+        Allocator {
             page_count: count,
             pages,
             used,
             next_page_id: next,
         },
-    }
+    )
 }
 
 // Each of these pages free again, or none of them where one cannot be freed.
@@ -68,10 +86,7 @@ pub fn free_each(a: Allocator, freed: &[u16]) -> Change
     ensures answers { λ r. ⌜ r ≡ freeEach a (now (freed .entry)) ⌝ }
 {
     if let Verdict::Refused(no) = checks::state_check(a) {
-        return Change {
-            answer: Outcome::Refused(no),
-            allocator: a,
-        };
+        return refused(no, a);
     }
     let mut pages = a.pages;
     let mut used = a.used;
@@ -79,16 +94,10 @@ pub fn free_each(a: Allocator, freed: &[u16]) -> Change
     while i < freed.len() {
         let p = freed[i] as usize;
         if a.page_count <= p {
-            return Change {
-                answer: Outcome::Refused(Refusal::OutOfRange),
-                allocator: a,
-            };
+            return refused(Refusal::OutOfRange, a);
         }
         if !marks::is_marked(&pages, p) {
-            return Change {
-                answer: Outcome::Refused(Refusal::Corrupted),
-                allocator: a,
-            };
+            return refused(Refusal::Corrupted, a);
         }
         marks::unmark(&mut pages, p);
         used -= 1;

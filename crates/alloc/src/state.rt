@@ -67,7 +67,7 @@ pub(crate) fn page_past(p: usize, count: usize) -> usize
     if next == count { 0 } else { next }
 }
 
-// The next search starts there.
+// The next search starts past page p.
 pub(crate) fn moved_past(a: Allocator, p: usize) -> Allocator
     requires { ⌜ p < a .«page_count» ⌝ }
     ensures answers { λ r. ⌜ r ≡ movedPast a p ⌝ }

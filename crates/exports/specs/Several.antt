@@ -1,29 +1,40 @@
 -- Pages allocated by one call, and freed by one. Assumes nothing.
 use mathlib.Core.List.{List}
-use Prim.Native.Nat.{ℕ}
+use Prim.Native.Nat.{ℕ, _+_}
 use lib.ListN.{length, take}
-use Rattle.alloc.specs.Answers.{countTold, outcomeTold}
+use Rattle.types.specs.Refusals.{numberOf}
+use Rattle.alloc.specs.Answers.{outcomeTold}
+use Rattle.alloc.specs.Calls.{freePages}
 use Rattle.alloc.specs.Several.{allocateEach, placesAfter, freeEach}
 use Rattle.alloc.specs.declared.allocator.Allocator.{Allocator}
 use Rattle.alloc.specs.declared.answers.Allocations.{Allocations}
+use Rattle.alloc.specs.declared.answers.Change.{Change}
 use Rattle.alloc.specs.declared.answers.Count.{Count}
 use Rattle.alloc.specs.declared.answers.Count.the-variants.{Pages, Refused}
 use Rattle.exports.specs.Allocations.{begun}
-use Rattle.exports.specs.Telling.{mixed, told}
+use Rattle.exports.specs.Telling.{mixed}
 use Rattle.exports.specs.declared.allocating.Tally.{Tally}
 
 abbrev pub pagesOf : Count → ℕ
 pagesOf (Pages n) = n
 pagesOf (Refused why) = 0
 
--- what freeing the first n of these pages answers
-abbrev pub freedAgain : Allocator → ℕ → List ℕ → ℕ
-freedAgain a n places = outcomeTold (freeEach a (take n places) .answer) .number
+-- an answer as one number
+abbrev pub countCode : Count → ℕ
+countCode (Pages n) = n
+countCode (Refused why) = 0x1_0000 + numberOf why
 
--- what was handed out, and what freeing it answers, behind the answer to the reset
+-- the sum with what freeing answers, and with how many pages are free then
+abbrev pub closed : ℕ → Change → ℕ
+closed sum c = mixed (mixed sum (outcomeTold (c .answer) .number)) (countCode (freePages (c .allocator)))
+
+-- the first n of these pages freed
+abbrev pub givenBack : ℕ → Allocator → ℕ → List ℕ → ℕ
+givenBack sum a n places = closed sum (freeEach a (take n places))
+
+-- what was handed out goes into the sum, and is freed
 abbrev pub eachSum : ℕ → Allocations → List ℕ → ℕ
-eachSum reset given places =
-    mixed (mixed reset (told (countTold (given .answer) .number) (pagesOf (given .answer)))) (freedAgain (given .allocator) (pagesOf (given .answer)) places)
+eachSum sum given places = givenBack (mixed sum (countCode (given .answer))) (given .allocator) (pagesOf (given .answer)) places
 
 abbrev eachAfter : Tally → List ℕ → ℕ
 eachAfter t places = eachSum (t .sum) (allocateEach (t .allocator) (length places)) (placesAfter (t .allocator) places)

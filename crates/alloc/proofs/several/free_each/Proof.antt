@@ -27,8 +27,11 @@ state-check-requires c κs = search needs
 enum-known-no : tie.Need-enum-known-no Inv-loop μ-loop
 enum-known-no c = search needs
 
+refused-requires : tie.Need-refused-requires Inv-loop μ-loop
+refused-requires c κs = search needs
+
 returns : tie.Need-returns Inv-loop μ-loop
-returns c = refused-free _ _ _ (sym (c .before .before .before .state-check .ensures) ∙ c .before .no .given .1)
+returns c = c .refused .ensures ∙ refused-free _ _ _ (sym (c .before .before .before .before .state-check .ensures) ∙ c .before .before .no .given .1)
 
 enum-told : tie.Need-enum-told Inv-loop μ-loop
 enum-told c = search needs
@@ -49,8 +52,11 @@ shared-slice-read-p c = c .before .loop-test .taken
 cast-p : tie.Need-cast-p Inv-loop μ-loop
 cast-p c = omega (arith, c .shared-slice-known2 .given (c .before .before .loop .i))
 
+refused-requires-2 : tie.Need-refused-requires-2 Inv-loop μ-loop
+refused-requires-2 c κs = search needs
+
 returns-2 : tie.Need-returns-2 Inv-loop μ-loop
-returns-2 c = past _ _ _ _ (c .before .before .before .before .loop .inv) (fine (c .before .before .before .before .before .before)) (c .before .before .before .loop-test .taken) (c .if1 .taken)
+returns-2 c = c .refused2 .ensures ∙ past _ _ _ _ (c .before .before .before .before .before .loop .inv) (fine (c .before .before .before .before .before .before .before)) (c .before .before .before .before .loop-test .taken) (c .before .if1 .taken)
 
 slice-aggregate-is-marked : tie.Need-slice-aggregate-is-marked Inv-loop μ-loop
 slice-aggregate-is-marked c = search needs
@@ -65,9 +71,13 @@ known c = c .loop .inv .sound .1
 is-marked-requires : tie.Need-is-marked-requires Inv-loop μ-loop
 is-marked-requires c κs = (search needs, omega (arith, c .before .if1 .left, known (c .before .before .before .before .before) .few))
 
+refused-requires-3 : tie.Need-refused-requires-3 Inv-loop μ-loop
+refused-requires-3 c κs = search needs
+
 returns-3 : tie.Need-returns-3 Inv-loop μ-loop
 returns-3 c =
-    free-already _ _ _ _ (c .before .before .before .before .before .before .before .loop .inv) (fine (c .before .before .before .before .before .before .before .before .before)) (c .before .before .before .before .before .before .loop-test .taken) (c .before .before .before .if1 .left) (sym (c .before .is-marked .ensures) ∙ not-true _ (c .if2 .taken))
+    c .refused3 .ensures
+    ∙ free-already _ _ _ _ (c .before .before .before .before .before .before .before .before .loop .inv) (fine (c .before .before .before .before .before .before .before .before .before .before)) (c .before .before .before .before .before .before .before .loop-test .taken) (c .before .before .before .before .if1 .left) (sym (c .before .before .is-marked .ensures) ∙ not-true _ (c .before .if2 .taken))
 
 slice-aggregate-unmark : tie.Need-slice-aggregate-unmark Inv-loop μ-loop
 slice-aggregate-unmark c = search needs
@@ -102,15 +112,18 @@ free-each-spec =
     μ-loop
     state-check-requires
     enum-known-no
+    refused-requires
     returns
     enum-told
     loop-holds
     mul-p
     shared-slice-read-p
     cast-p
+    refused-requires-2
     returns-2
     slice-aggregate-is-marked
     is-marked-requires
+    refused-requires-3
     returns-3
     slice-aggregate-unmark
     unmark-requires

@@ -63,11 +63,16 @@ enum-known-page c = search needs
 enum-told-2 : tie.Need-enum-told-2 Inv-loop μ-loop
 enum-told-2 c = search needs
 
+handed-requires : tie.Need-handed-requires Inv-loop μ-loop
+handed-requires c κs = search needs
+
 same-length : tie.Need-same-length Inv-loop μ-loop
-same-length c = c .before .before .before .before .before .loop .inv .long
+same-length c = c .before .before .before .before .before .before .loop .inv .long
 
 returns-2 : tie.Need-returns-2 Inv-loop μ-loop
-returns-2 c = no-page _ _ _ _ _ (c .before .before .before .before .before .loop .inv) (fine (c .before .before .before .before .before .before .before)) (sym (c .before .before .first-free .ensures) ∙ c .enum-told2 .given .1)
+returns-2 c =
+    let end = no-page _ _ _ _ _ (c .before .before .before .before .before .before .loop .inv) (fine (c .before .before .before .before .before .before .before .before)) (sym (c .before .before .before .first-free .ensures) ∙ c .before .enum-told2 .given .1) in
+    (c .handed .ensures ∙ end .0, end .1)
 
 index-requires : tie.Need-index-requires Inv-loop μ-loop
 index-requires c κs = search needs
@@ -112,11 +117,16 @@ loop-again c =
     let b = c .before .before .before .before in
     hand-on _ _ _ _ _ (b .before .before .before .before .before .before .before .loop .inv) _ _ _ _ (b .before .before .before .before .before .before .loop-test .taken) (page-found b) (b .index .ensures) (c .before .before .mark .ensures) (c .page-past .ensures)
 
+handed-requires-2 : tie.Need-handed-requires-2 Inv-loop μ-loop
+handed-requires-2 c κs = search needs
+
 same-length-2 : tie.Need-same-length-2 Inv-loop μ-loop
-same-length-2 c = c .before .loop .inv .long
+same-length-2 c = c .before .before .loop .inv .long
 
 returns-3 : tie.Need-returns-3 Inv-loop μ-loop
-returns-3 c = no-place _ _ _ _ _ (c .before .loop .inv) (fine (c .before .before .before)) (c .loop-test .left)
+returns-3 c =
+    let end = no-place _ _ _ _ _ (c .before .before .loop .inv) (fine (c .before .before .before .before)) (c .before .loop-test .left) in
+    (c .handed2 .ensures ∙ end .0, end .1)
 
 pub try-allocate-each-spec : {M : Type 1} → statement M
 try-allocate-each-spec =
@@ -133,6 +143,7 @@ try-allocate-each-spec =
     first-free-requires
     enum-known-page
     enum-told-2
+    handed-requires
     same-length
     returns-2
     index-requires
@@ -145,5 +156,6 @@ try-allocate-each-spec =
     add-i
     loop-less
     loop-again
+    handed-requires-2
     same-length-2
     returns-3)

@@ -1,8 +1,8 @@
--- `exports::several::freed_again` meets its contract. Assumes nothing.
-use Rattle.exports.proofs.SeveralLaws.{freed-by}
+-- `exports::several::given_back` meets its contract. Assumes nothing.
+use Rattle.exports.proofs.SeveralLaws.{given-back-by}
 use borrow.Author.Needs.{needs}
-use Rattle.exports.proofs.several.freed_again.Statement.{statement}
-use Rattle.exports.proofs.several.freed_again.Tie as tie
+use Rattle.exports.proofs.several.given_back.Statement.{statement}
+use Rattle.exports.proofs.several.given_back.Tie as tie
 
 least-requires : tie.Need-least-requires
 least-requires c κs = search needs
@@ -19,14 +19,14 @@ part-free-each-end c = search needs
 free-each-requires : tie.Need-free-each-requires
 free-each-requires c κs = search needs
 
-number-requires : tie.Need-number-requires
-number-requires c κs = search needs
+closed-requires : tie.Need-closed-requires
+closed-requires c κs = search needs
 
 returns : tie.Need-returns
-returns c = freed-by _ _ _ _ _ (c .before .free-each .result) (c .before .before .before .least .ensures) (c .before .free-each .ensures) (c .number .ensures)
+returns c = given-back-by _ _ _ _ _ _ (c .before .free-each .result) (c .before .before .before .least .ensures) (c .before .free-each .ensures) (c .closed .ensures)
 
-pub freed-again-spec : {M : Type 1} → statement M
-freed-again-spec =
+pub given-back-spec : {M : Type 1} → statement M
+given-back-spec =
     tie.close
     (tie.spec
     least-requires
@@ -34,5 +34,5 @@ freed-again-spec =
     part-free-each-start
     part-free-each-end
     free-each-requires
-    number-requires
+    closed-requires
     returns)
