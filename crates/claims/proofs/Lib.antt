@@ -14,6 +14,7 @@ pub mod HistoryLaws
 pub mod OneAlloc
 pub mod OneCrc
 pub mod OneCursor
+pub mod OneDigits
 pub mod OneExports
 pub mod OneFlash
 pub mod OnePage

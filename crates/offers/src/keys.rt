@@ -1,9 +1,9 @@
 // A bound's key, as an argument has it: \xNN is a byte, \\ a backslash, any other byte itself.
 use crate::line::put;
 use desk::say::wrong;
+use digits::hex::Decoded;
+use digits::hex::decode;
 use flash::part::part_of;
-use script::hex::Decoded;
-use script::hex::decode;
 use types::num::least;
 use types::num::less;
 

@@ -15,7 +15,7 @@ use alloc::answers::Margin;
 use alloc::answers::Outcome;
 use alloc::answers::Usage;
 use check::same;
-use script::number::Number;
+use digits::number::Number;
 use script::words::word_at;
 use script::words::word_count;
 use types::config::MAX_PAGE_COUNT;

@@ -1,11 +1,11 @@
 // The arguments of a call: words of its line, by their place.
 use check::same;
-use script::hex::Decoded;
-use script::hex::decode;
-use script::number::Number;
-use script::number::Word32;
-use script::number::decimal_in;
-use script::number::word32_in;
+use digits::hex::Decoded;
+use digits::hex::decode;
+use digits::number::Number;
+use digits::number::Word32;
+use digits::number::decimal_in;
+use digits::number::word32_in;
 use script::words::word_at;
 use types::page_id::PageID;
 

@@ -1,9 +1,9 @@
 // Answers, word by word: the first one starts the line, and each other brings the space before it.
+use digits::hex::encode;
+use digits::hex::hex32;
+use digits::number::sign_apart;
 use flash::part::part_of;
 use libc::STDOUT_FILENO;
-use script::hex::encode;
-use script::hex::hex32;
-use script::number::sign_apart;
 use script::space::line_space;
 use types::refusal::Refusal;
 

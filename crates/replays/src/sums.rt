@@ -3,8 +3,8 @@ use crate::args::bytes_at;
 use crate::say;
 use crate::world::World;
 use crc::crc32;
+use digits::number::Number;
 use flash::part::part_of;
-use script::number::Number;
 use script::space::line_space;
 use script::words::word_count;
 

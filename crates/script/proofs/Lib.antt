@@ -1,4 +1,1 @@
-pub mod HexLaws
-pub mod NumberLaws
-pub mod SignLaws
 pub mod WordLaws

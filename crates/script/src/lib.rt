@@ -1,5 +1,3 @@
 // The words of a script: the text that the replay programs read, a call a line.
-pub mod hex;
-pub mod number;
 pub mod space;
 pub mod words;

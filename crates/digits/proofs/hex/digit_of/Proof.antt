@@ -1,0 +1,24 @@
+-- `digits::hex::digit_of` meets its contract. Assumes nothing.
+use Prim.Native.Nat.{_%_}
+use borrow.Author.Tests.{lt-ltb, le-ltb}
+use borrow.Author.Needs.{needs}
+use Rattle.digits.proofs.hex.digit_of.Statement.{statement}
+use Rattle.digits.proofs.hex.digit_of.Tie as tie
+
+cast-d : tie.Need-cast-d
+cast-d c = search needs
+
+add-result : tie.Need-add-result
+add-result c = search needs
+
+add-result-2 : tie.Need-add-result-2
+add-result-2 c = search needs
+
+returns : tie.Need-returns
+returns c = rw (lt-ltb (c .before .args .n % 16) 10 (c .if1 .taken))
+
+returns-2 : tie.Need-returns-2
+returns-2 c = rw (le-ltb (c .before .args .n % 16) 10 (c .if1 .left))
+
+pub digit-of-spec : {M : Type 1} → statement M
+digit-of-spec = tie.close (tie.spec cast-d add-result add-result-2 returns returns-2)
