@@ -17,6 +17,7 @@ pub mod OneCursor
 pub mod OneDigits
 pub mod OneExports
 pub mod OneFlash
+pub mod OneKeys
 pub mod OnePage
 pub mod OneReader
 pub mod OneRun

@@ -7,12 +7,12 @@ use Prim.Native.Nat.{ℕ}
 use native.Mathlib.Omega.{arith}
 use Rattle.run.specs.Bounds.{pastBy, isPast}
 use Rattle.run.specs.Items.{Item, Below}
-use Rattle.run.specs.Keys.{compareKeys}
+use Rattle.keys.specs.Keys.{compareKeys}
 use Rattle.run.specs.declared.bound.Bound.{Bound}
 use Rattle.run.specs.declared.bound.Bound.the-variants.{Unbounded, Included, Excluded}
-use Rattle.run.specs.declared.order.Ordering.{Ordering}
-use Rattle.run.specs.declared.order.Ordering.the-variants.{Less, Equal, Greater}
-use Rattle.run.proofs.OrderLaws.{compare-equal, less-less, greater-less, less-greater}
+use Rattle.keys.specs.declared.order.Ordering.{Ordering}
+use Rattle.keys.specs.declared.order.Ordering.the-variants.{Less, Equal, Greater}
+use Rattle.keys.proofs.OrderLaws.{compare-equal, less-less, greater-less, less-greater}
 use Rattle.cursor.specs.Merged.{reachesBy, reaches}
 use Rattle.cursor.specs.Union.{kept}
 

@@ -11,7 +11,7 @@ use lib.ListN.{length, set}
 use Rattle.types.specs.Build.{fileCount}
 use Rattle.types.proofs.TestLaws.{eq-or-ne}
 use Rattle.run.specs.declared.bound.Bound.{Bound}
-use Rattle.run.specs.declared.order.Ordering.{Ordering}
+use Rattle.keys.specs.declared.order.Ordering.{Ordering}
 use Rattle.run.specs.declared.record.Record.{Record}
 use Rattle.run.proofs.FitLaws.{head-lies}
 use Rattle.run.proofs.PartLaws.{part-fits}

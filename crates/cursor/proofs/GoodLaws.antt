@@ -12,7 +12,7 @@ use Rattle.types.specs.Build.{fileCount}
 use Rattle.types.specs.declared.refusal.Refusal.the-variants.{BadRuns, BadState}
 use Rattle.types.proofs.TestLaws.{eq-or-ne, both-true}
 use Rattle.run.specs.declared.bound.Bound.{Bound}
-use Rattle.run.specs.declared.order.Ordering.{Ordering}
+use Rattle.keys.specs.declared.order.Ordering.{Ordering}
 use Rattle.run.specs.declared.record.Record.{Record}
 use Rattle.run.proofs.FitLaws.{head-lies}
 use Rattle.run.proofs.PartLaws.{part-fits}

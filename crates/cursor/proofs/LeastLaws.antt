@@ -10,14 +10,14 @@ use native.Mathlib.Omega.{arith}
 use lib.ListN.{set}
 use Rattle.types.proofs.TestLaws.{eq-or-ne}
 use Rattle.run.specs.Bounds.{isPast}
-use Rattle.run.specs.Keys.{compareKeys}
+use Rattle.keys.specs.Keys.{compareKeys}
 use Rattle.run.specs.Records.{headAt, keyIn}
 use Rattle.run.specs.declared.bound.Bound.{Bound}
-use Rattle.run.specs.declared.order.Ordering.{Ordering}
-use Rattle.run.specs.declared.order.Ordering.the-variants.{Less, Equal, Greater}
+use Rattle.keys.specs.declared.order.Ordering.{Ordering}
+use Rattle.keys.specs.declared.order.Ordering.the-variants.{Less, Equal, Greater}
 use Rattle.run.specs.declared.record.Record.{Record}
 use Rattle.run.specs.declared.record.Head.the-variants as head
-use Rattle.run.proofs.OrderLaws.{compare-itself, compare-equal, less-less, greater-less, less-greater}
+use Rattle.keys.proofs.OrderLaws.{compare-itself, compare-equal, less-less, greater-less, less-greater}
 use Rattle.cursor.specs.Pass.{againstLowest, lowestKey, withGone, withHolder, withLowest, passOf}
 use Rattle.cursor.specs.Places.{gone, atPlace, placeOf}
 use Rattle.cursor.specs.Runs.{runOf}

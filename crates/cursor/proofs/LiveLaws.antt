@@ -7,10 +7,10 @@ use mathlib.Core.Logic.{_⊎_, inl, inr, ⊎-elim}
 use Prim.Native.Nat.{ℕ}
 use native.Mathlib.Omega.{arith}
 use Rattle.run.specs.Items.{Item, Below, Rising, nothing, deleted, live, saidAt, saidIn}
-use Rattle.run.specs.Keys.{compareKeys}
-use Rattle.run.specs.declared.order.Ordering.{Ordering}
-use Rattle.run.specs.declared.order.Ordering.the-variants.{Less, Equal, Greater}
-use Rattle.run.proofs.OrderLaws.{compare-itself, compare-equal, less-greater}
+use Rattle.keys.specs.Keys.{compareKeys}
+use Rattle.keys.specs.declared.order.Ordering.{Ordering}
+use Rattle.keys.specs.declared.order.Ordering.the-variants.{Less, Equal, Greater}
+use Rattle.keys.proofs.OrderLaws.{compare-itself, compare-equal, less-greater}
 use Rattle.cursor.specs.Merged.{Pair, Among, BelowPairs, RisingPairs}
 use Rattle.cursor.specs.Union.{kept, lives}
 

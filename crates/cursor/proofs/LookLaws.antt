@@ -9,7 +9,7 @@ use denote.Enum.Declared.{tagOf}
 use Rattle.run.specs.Bounds.{isPast}
 use Rattle.run.specs.Records.{headAt, keyIn}
 use Rattle.run.specs.declared.bound.Bound.{Bound}
-use Rattle.run.specs.declared.order.Ordering.{Ordering}
+use Rattle.keys.specs.declared.order.Ordering.{Ordering}
 use Rattle.run.specs.declared.record.Record.{Record}
 use Rattle.run.specs.declared.record.Head.{Head}
 use Rattle.run.specs.declared.record.Head.the-variants as head

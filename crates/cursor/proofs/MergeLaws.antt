@@ -15,8 +15,8 @@ use Rattle.types.proofs.TestLaws.{eq-or-ne}
 use Rattle.run.specs.Items.{Item, itemIn}
 use Rattle.run.specs.Records.{headAt, keyIn, valueIn}
 use Rattle.run.specs.declared.bound.Bound.{Bound}
-use Rattle.run.specs.declared.order.Ordering.{Ordering}
-use Rattle.run.specs.declared.order.Ordering.the-variants.{Less, Equal, Greater}
+use Rattle.keys.specs.declared.order.Ordering.{Ordering}
+use Rattle.keys.specs.declared.order.Ordering.the-variants.{Less, Equal, Greater}
 use Rattle.run.specs.declared.record.Record.{Record}
 use Rattle.run.specs.declared.record.Head.the-variants as head
 use Rattle.run.proofs.FitLaws.{head-lies}

@@ -7,10 +7,10 @@ use Prim.Native.Nat.{ℕ}
 use native.Mathlib.Omega.{arith}
 use lib.ListN.{take}
 use Rattle.run.specs.Items.{Item}
-use Rattle.run.specs.Keys.{compareKeys}
+use Rattle.keys.specs.Keys.{compareKeys}
 use Rattle.run.specs.declared.bound.Bound.{Bound}
-use Rattle.run.specs.declared.order.Ordering.the-variants.{Less, Equal}
-use Rattle.run.proofs.OrderLaws.{compare-itself, less-less}
+use Rattle.keys.specs.declared.order.Ordering.the-variants.{Less, Equal}
+use Rattle.keys.proofs.OrderLaws.{compare-itself, less-less}
 use Rattle.cursor.specs.Merged.{Pair, Hands, end, entry, Among, BelowPairs, RisingPairs, Merged}
 use Rattle.cursor.specs.Next.{nextKey, nextValue}
 use Rattle.cursor.specs.declared.answer.NextAnswer.the-variants.{Entry}

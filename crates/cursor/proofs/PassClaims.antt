@@ -8,12 +8,12 @@ use mathlib.Core.Logic.{_⊎_, ⊎-elim}
 use Prim.Native.Nat.{ℕ, _≤_, _<_}
 use native.Mathlib.Omega.{arith}
 use lib.ListN.{length}
-use Rattle.run.specs.Keys.{compareKeys}
+use Rattle.keys.specs.Keys.{compareKeys}
 use Rattle.run.specs.declared.bound.Bound.{Bound}
-use Rattle.run.specs.declared.order.Ordering.{Ordering}
-use Rattle.run.specs.declared.order.Ordering.the-variants.{Less, Equal, Greater}
+use Rattle.keys.specs.declared.order.Ordering.{Ordering}
+use Rattle.keys.specs.declared.order.Ordering.the-variants.{Less, Equal, Greater}
 use Rattle.run.specs.declared.record.Record.{Record}
-use Rattle.run.proofs.OrderLaws.{compare-itself, compare-equal}
+use Rattle.keys.proofs.OrderLaws.{compare-itself, compare-equal}
 use Rattle.cursor.specs.Pass.{passOf}
 use Rattle.cursor.specs.Places.{placeOf}
 use Rattle.cursor.specs.declared.look.Lowest.{Lowest}

@@ -9,8 +9,8 @@ use Rattle.types.specs.declared.refusal.Refusal.{Refusal}
 use Rattle.run.specs.Bounds.{isPast}
 use Rattle.run.specs.Records.{headAt, keyIn}
 use Rattle.run.specs.declared.bound.Bound.{Bound}
-use Rattle.run.specs.declared.order.Ordering.{Ordering}
-use Rattle.run.specs.declared.order.Ordering.the-variants.{Less, Equal, Greater}
+use Rattle.keys.specs.declared.order.Ordering.{Ordering}
+use Rattle.keys.specs.declared.order.Ordering.the-variants.{Less, Equal, Greater}
 use Rattle.run.specs.declared.record.Record.{Record}
 use Rattle.run.specs.declared.record.Head.{Head}
 use Rattle.run.specs.declared.record.Head.the-variants as head

@@ -9,13 +9,13 @@ use lib.ListN.{length}
 use Rattle.types.specs.declared.refusal.Refusal.{Refusal}
 use Rattle.run.specs.Bounds.{isPast}
 use Rattle.run.specs.Items.{Item, itemIn, Reads, end, more, Below, Rising}
-use Rattle.run.specs.Keys.{compareKeys}
+use Rattle.keys.specs.Keys.{compareKeys}
 use Rattle.run.specs.Records.{headAt, keyIn}
 use Rattle.run.specs.Search.{soughtBy, soughtHead, soughtFrom, soughtIn}
 use Rattle.run.specs.declared.bound.Bound.{Bound}
 use Rattle.run.specs.declared.bound.Bound.the-variants.{Unbounded, Included, Excluded}
-use Rattle.run.specs.declared.order.Ordering.{Ordering}
-use Rattle.run.specs.declared.order.Ordering.the-variants.{Less, Equal, Greater}
+use Rattle.keys.specs.declared.order.Ordering.{Ordering}
+use Rattle.keys.specs.declared.order.Ordering.the-variants.{Less, Equal, Greater}
 use Rattle.run.specs.declared.record.Record.{Record}
 use Rattle.run.specs.declared.record.Head.the-variants as head
 use Rattle.run.specs.declared.search.Sought.{Sought}

@@ -3,7 +3,7 @@ use mathlib.Core.Path.{_≡_, refl}
 use mathlib.Core.List.{map, flatten}
 use Rattle.types.specs.Bytes.{word}
 use Rattle.run.specs.Bounds.{pastBy}
-use Rattle.run.specs.Keys.{compareKeys}
+use Rattle.keys.specs.Keys.{compareKeys}
 use Rattle.run.specs.Parts.{partOf}
 use Rattle.run.specs.Records.{bodyAt, headBy, headAt}
 use Rattle.run.specs.Search.{soughtBy, soughtHead, soughtFrom, soughtIn}

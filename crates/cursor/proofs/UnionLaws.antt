@@ -6,10 +6,10 @@ use mathlib.Core.List.{List, [], _∷_}
 use Prim.Native.Nat.{ℕ, zero, suc, _<_}
 use native.Mathlib.Omega.{arith}
 use Rattle.run.specs.Items.{Item, Below, Rising, Said, nothing, deleted, live, saidBy, saidAt, saidIn}
-use Rattle.run.specs.Keys.{compareKeys}
-use Rattle.run.specs.declared.order.Ordering.{Ordering}
-use Rattle.run.specs.declared.order.Ordering.the-variants.{Less, Equal, Greater}
-use Rattle.run.proofs.OrderLaws.{compare-equal, less-less, greater-less}
+use Rattle.keys.specs.Keys.{compareKeys}
+use Rattle.keys.specs.declared.order.Ordering.{Ordering}
+use Rattle.keys.specs.declared.order.Ordering.the-variants.{Less, Equal, Greater}
+use Rattle.keys.proofs.OrderLaws.{compare-equal, less-less, greater-less}
 use Rattle.cursor.specs.Merged.{orElse, said}
 use Rattle.cursor.specs.Union.{overFirst, over, union}
 

@@ -8,11 +8,11 @@ use Prim.Native.Nat.{ℕ, zero, suc}
 use lib.ListN.{length, take}
 use Rattle.run.specs.Bounds.{isPast}
 use Rattle.run.specs.Items.{Item, Said, nothing, deleted, live, saidIn}
-use Rattle.run.specs.Keys.{compareKeys}
+use Rattle.keys.specs.Keys.{compareKeys}
 use Rattle.run.specs.declared.bound.Bound.{Bound}
 use Rattle.run.specs.declared.bound.Bound.the-variants.{Unbounded, Included, Excluded}
-use Rattle.run.specs.declared.order.Ordering.{Ordering}
-use Rattle.run.specs.declared.order.Ordering.the-variants.{Less, Equal, Greater}
+use Rattle.keys.specs.declared.order.Ordering.{Ordering}
+use Rattle.keys.specs.declared.order.Ordering.the-variants.{Less, Equal, Greater}
 use Rattle.cursor.specs.Next.{nextOf, nextKey, nextValue}
 use Rattle.cursor.specs.declared.answer.NextAnswer.the-variants.{End, Entry}
 use Rattle.cursor.specs.declared.place.Cursor.{Cursor}

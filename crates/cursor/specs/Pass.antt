@@ -6,11 +6,11 @@ use Prim.Native.Nat.{ℕ, zero, suc}
 use lib.ListN.{length, set}
 use Rattle.types.specs.declared.refusal.Refusal.{Refusal}
 use Rattle.run.specs.Bounds.{isPast}
-use Rattle.run.specs.Keys.{compareKeys}
+use Rattle.keys.specs.Keys.{compareKeys}
 use Rattle.run.specs.Records.{headAt, keyIn, valueIn}
 use Rattle.run.specs.declared.bound.Bound.{Bound}
-use Rattle.run.specs.declared.order.Ordering.{Ordering}
-use Rattle.run.specs.declared.order.Ordering.the-variants.{Less, Equal, Greater}
+use Rattle.keys.specs.declared.order.Ordering.{Ordering}
+use Rattle.keys.specs.declared.order.Ordering.the-variants.{Less, Equal, Greater}
 use Rattle.run.specs.declared.record.Record.{Record}
 use Rattle.run.specs.declared.record.Head.{Head}
 use Rattle.run.specs.declared.record.Head.the-variants as head

@@ -2,10 +2,10 @@
 ghost use mathlib.Core.Path.{_≡_};
 ghost use Rattle.cursor.specs.Pass.{againstLowest, lookWithout, lookAt};
 use crate::place::Place;
+use keys::order::Ordering;
+use keys::order::compare;
 use run::bound::Bound;
 use run::bound::past;
-use run::order::Ordering;
-use run::order::compare;
 use run::record::Head;
 use run::record::Record;
 use run::record::head_at;

@@ -6,13 +6,13 @@ use Prim.Native.Nat.{ℕ, zero, suc, _-_, _≤_, _<_}
 use native.Mathlib.Omega.{arith}
 use lib.ListN.{length}
 use denote.Enum.Declared.{tagOf}
-use Rattle.run.specs.Keys.{compareKeys}
+use Rattle.keys.specs.Keys.{compareKeys}
 use Rattle.run.specs.Records.{recordHeaderSize, headAt, keyIn}
 use Rattle.run.specs.Search.{levelAt, soughtWithout, soughtBy, soughtHead, soughtFrom, soughtIn}
 use Rattle.run.specs.declared.bound.Bound.{Bound}
 use Rattle.run.specs.declared.bound.Bound.the-variants.{Unbounded, Included, Excluded}
-use Rattle.run.specs.declared.order.Ordering.{Ordering}
-use Rattle.run.specs.declared.order.Ordering.the-variants.{Less, Equal, Greater}
+use Rattle.keys.specs.declared.order.Ordering.{Ordering}
+use Rattle.keys.specs.declared.order.Ordering.the-variants.{Less, Equal, Greater}
 use Rattle.run.specs.declared.record.Record.{Record}
 use Rattle.run.specs.declared.record.Head.{Head}
 use Rattle.run.specs.declared.record.Head.the-variants as head

@@ -3,10 +3,10 @@ use mathlib.Core.Path.{_≡_}
 use mathlib.Core.Bool.{Bool, cond}
 use mathlib.Core.List.{List, [], _∷_}
 use Prim.Native.Nat.{ℕ}
-use Rattle.run.specs.Keys.{compareKeys}
+use Rattle.keys.specs.Keys.{compareKeys}
 use Rattle.run.specs.Records.{headAt, keyIn, valueIn}
-use Rattle.run.specs.declared.order.Ordering.{Ordering}
-use Rattle.run.specs.declared.order.Ordering.the-variants.{Less, Equal, Greater}
+use Rattle.keys.specs.declared.order.Ordering.{Ordering}
+use Rattle.keys.specs.declared.order.Ordering.the-variants.{Less, Equal, Greater}
 use Rattle.run.specs.declared.record.Record.{Record}
 use Rattle.run.specs.declared.record.Head.the-variants as head
 

@@ -2,12 +2,12 @@
 use mathlib.Core.List.{List}
 use Prim.Native.Nat.{ℕ, zero, suc}
 use lib.ListN.{length}
-use Rattle.run.specs.Keys.{compareKeys}
+use Rattle.keys.specs.Keys.{compareKeys}
 use Rattle.run.specs.Records.{headAt, keyIn}
 use Rattle.run.specs.declared.bound.Bound.{Bound}
 use Rattle.run.specs.declared.bound.Bound.the-variants.{Unbounded, Included, Excluded}
-use Rattle.run.specs.declared.order.Ordering.{Ordering}
-use Rattle.run.specs.declared.order.Ordering.the-variants.{Less, Equal, Greater}
+use Rattle.keys.specs.declared.order.Ordering.{Ordering}
+use Rattle.keys.specs.declared.order.Ordering.the-variants.{Less, Equal, Greater}
 use Rattle.run.specs.declared.record.Head.{Head}
 use Rattle.run.specs.declared.record.Head.the-variants as head
 use Rattle.run.specs.declared.search.Sought.{Sought}

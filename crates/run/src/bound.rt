@@ -1,8 +1,8 @@
 // Bounds of a merge (document 01, 'Runs and merge'). The bound's key is lent beside it, and may have any length.
 ghost use mathlib.Core.Path.{_≡_};
 ghost use Rattle.run.specs.Bounds.{isPast};
-use crate::order::Ordering;
-use crate::order::compare;
+use keys::order::Ordering;
+use keys::order::compare;
 
 pub enum Bound {
     Unbounded,

@@ -3,10 +3,10 @@ ghost use mathlib.Core.Path.{_≡_};
 ghost use Rattle.run.specs.Answers.{soughtNumber};
 ghost use Rattle.run.specs.Search.{levelAt, soughtWithout, soughtIn};
 use crate::bound::Bound;
-use crate::order::Ordering;
-use crate::order::compare;
 use crate::record::Head;
 use crate::record::head_at;
+use keys::order::Ordering;
+use keys::order::compare;
 use types::refusal::Refusal;
 
 // Where a run starts under a lower bound.

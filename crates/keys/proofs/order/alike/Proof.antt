@@ -1,14 +1,14 @@
--- `run::order::alike` meets its contract: the bytes passed are the same in both. Assumes nothing.
+-- `keys::order::alike` meets its contract: the bytes passed are the same in both. Assumes nothing.
 use mathlib.Core.Path.{refl, sym, _∙_}
 use Prim.Native.Nat.{_-_, _≤_}
 use native.Mathlib.Omega.{arith}
 use lib.ListN.{length}
 use borrow.Author.Needs.{needs}
 use denote.Ref.{now}
-use Rattle.run.specs.Keys.{Alike}
-use Rattle.run.proofs.AlikeLaws.{alike-more}
-use Rattle.run.proofs.order.alike.Statement.{statement}
-use Rattle.run.proofs.order.alike.Tie as tie
+use Rattle.keys.specs.Keys.{Alike}
+use Rattle.keys.proofs.AlikeLaws.{alike-more}
+use Rattle.keys.proofs.order.alike.Statement.{statement}
+use Rattle.keys.proofs.order.alike.Tie as tie
 
 abbrev Inv-loop : tie.InvT-loop
 Inv-loop a b size i₀ i = (i ≤ size) × (size ≤ length a) × (size ≤ length b) × Alike a b i

@@ -4,7 +4,7 @@ ghost use mathlib.Core.List.{[], _∷_};
 ghost use Prim.Native.Nat.{_+_, _≤_};
 ghost use lib.ListN.{length, take, drop};
 ghost use Rattle.types.specs.Bytes.{word};
-ghost use Rattle.run.specs.Keys.{Alike, compareKeys};
+ghost use Rattle.keys.specs.Keys.{Alike, compareKeys};
 
 pub enum Ordering {
     Less,

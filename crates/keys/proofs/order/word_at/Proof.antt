@@ -1,10 +1,10 @@
--- `run::order::word_at` meets its contract. Assumes nothing.
+-- `keys::order::word_at` meets its contract. Assumes nothing.
 use mathlib.Core.Path.{_∙_}
 use borrow.Author.Needs.{needs}
 use denote.Ref.{now}
-use Rattle.run.proofs.AlikeLaws.{four-at}
-use Rattle.run.proofs.order.word_at.Statement.{statement}
-use Rattle.run.proofs.order.word_at.Tie as tie
+use Rattle.keys.proofs.AlikeLaws.{four-at}
+use Rattle.keys.proofs.order.word_at.Statement.{statement}
+use Rattle.keys.proofs.order.word_at.Tie as tie
 
 shared-slice-read-word-of : tie.Need-shared-slice-read-word-of
 shared-slice-read-word-of c = search needs

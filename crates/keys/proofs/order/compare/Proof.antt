@@ -1,14 +1,14 @@
--- `run::order::compare` meets its contract: what is left of both keys stands as the keys do. Assumes nothing.
+-- `keys::order::compare` meets its contract: what is left of both keys stands as the keys do. Assumes nothing.
 use mathlib.Core.Path.{_≡_}
 use Prim.Native.Nat.{_-_, _≤_}
 use native.Mathlib.Omega.{arith}
 use lib.ListN.{length, drop}
 use borrow.Author.Needs.{needs}
-use Rattle.run.specs.Keys.{compareKeys}
-use Rattle.run.proofs.AlikeLaws.{compare-alike}
-use Rattle.run.proofs.KeyLaws.{first-ends, second-ends, both-end, byte-less, byte-greater, byte-same}
-use Rattle.run.proofs.order.compare.Statement.{statement}
-use Rattle.run.proofs.order.compare.Tie as tie
+use Rattle.keys.specs.Keys.{compareKeys}
+use Rattle.keys.proofs.AlikeLaws.{compare-alike}
+use Rattle.keys.proofs.KeyLaws.{first-ends, second-ends, both-end, byte-less, byte-greater, byte-same}
+use Rattle.keys.proofs.order.compare.Statement.{statement}
+use Rattle.keys.proofs.order.compare.Tie as tie
 
 abbrev Inv-loop : tie.InvT-loop
 Inv-loop a b i₀ i = (i ≤ length a) × (i ≤ length b) × (compareKeys (drop i a) (drop i b) ≡ compareKeys a b)

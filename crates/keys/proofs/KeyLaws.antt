@@ -7,8 +7,8 @@ use native.Mathlib.Numerals.{add-one}
 use borrow.Author.Tests.{lt-ltb, le-ltb}
 use lib.ListN.{length, drop, getD, drop-of-length-le}
 use lib.Seq.{drop-cons}
-use Rattle.run.specs.Keys.{compareKeys}
-use Rattle.run.specs.declared.order.Ordering.the-variants.{Less, Equal, Greater}
+use Rattle.keys.specs.Keys.{compareKeys}
+use Rattle.keys.specs.declared.order.Ordering.the-variants.{Less, Equal, Greater}
 
 module _ (a b : List ℕ) (i : ℕ) (same : compareKeys (drop i a) (drop i b) ≡ compareKeys a b) where
   pub first-ends : length a ≤ i → i < length b → Less ≡ compareKeys a b

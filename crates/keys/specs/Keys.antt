@@ -5,8 +5,8 @@ use mathlib.Core.List.{List, [], _∷_}
 use Prim.Native.Nat.{ℕ, _≤_}
 use lib.Dec.{ltb}
 use lib.ListN.{length, take}
-use Rattle.run.specs.declared.order.Ordering.{Ordering}
-use Rattle.run.specs.declared.order.Ordering.the-variants.{Less, Equal, Greater}
+use Rattle.keys.specs.declared.order.Ordering.{Ordering}
+use Rattle.keys.specs.declared.order.Ordering.the-variants.{Less, Equal, Greater}
 
 -- how the first key stands to the second
 unfoldable pub compareKeys : List ℕ → List ℕ → Ordering

@@ -1,9 +1,9 @@
--- `run::order::word_of` meets its contract. Assumes nothing.
+-- `keys::order::word_of` meets its contract. Assumes nothing.
 use native.Mathlib.Omega.{arith}
 use borrow.Author.Needs.{needs}
 use Rattle.types.specs.Bytes.{word}
-use Rattle.run.proofs.order.word_of.Statement.{statement}
-use Rattle.run.proofs.order.word_of.Tie as tie
+use Rattle.keys.proofs.order.word_of.Statement.{statement}
+use Rattle.keys.proofs.order.word_of.Tie as tie
 
 mul-result : tie.Need-mul-result
 mul-result c = search needs

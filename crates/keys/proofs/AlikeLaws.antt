@@ -9,8 +9,8 @@ use lib.ListN.{length, getD, take, drop, length-drop, take-append-drop}
 use lib.Seq.{take-add, getD-drop}
 use Rattle.types.specs.Bytes.{Bytes, word}
 use Rattle.types.proofs.BytesLaws.{bytesOf-word}
-use Rattle.run.specs.Keys.{Alike, compareKeys}
-use Rattle.run.proofs.OrderLaws.{first-same}
+use Rattle.keys.specs.Keys.{Alike, compareKeys}
+use Rattle.keys.proofs.OrderLaws.{first-same}
 
 -- ---- four bytes
 

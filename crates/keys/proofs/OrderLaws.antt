@@ -7,9 +7,9 @@ use Prim.Native.Nat.{ℕ, _<_}
 use native.Mathlib.Omega.{arith}
 use borrow.Author.Tests.{lt-ltb, le-ltb}
 use Rattle.types.proofs.TestLaws.{le-or-lt}
-use Rattle.run.specs.Keys.{compareKeys}
-use Rattle.run.specs.declared.order.Ordering.{Ordering}
-use Rattle.run.specs.declared.order.Ordering.the-variants.{Less, Equal, Greater}
+use Rattle.keys.specs.Keys.{compareKeys}
+use Rattle.keys.specs.declared.order.Ordering.{Ordering}
+use Rattle.keys.specs.declared.order.Ordering.the-variants.{Less, Equal, Greater}
 
 -- ---- the first byte
 

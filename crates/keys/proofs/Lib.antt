@@ -1,0 +1,3 @@
+pub mod AlikeLaws
+pub mod KeyLaws
+pub mod OrderLaws

@@ -1,0 +1,2 @@
+// The order of keys.
+pub mod order;
