@@ -1,5 +1,7 @@
 -- `flash::geometry::page_of` meets its contract. Assumes nothing.
-use mathlib.Core.Path.{_∙_}
+use mathlib.Core.Path.{ap, _∙_}
+use Prim.Native.Nat.{ℕ}
+use Rattle.flash.specs.Geometry.{pageFrom}
 use borrow.Author.Needs.{needs}
 use Rattle.flash.proofs.geometry.page_of.Statement.{statement}
 use Rattle.flash.proofs.geometry.page_of.Tie as tie
@@ -11,7 +13,7 @@ part-of-requires : tie.Need-part-of-requires
 part-of-requires c κs = search needs
 
 returns : tie.Need-returns
-returns c = c .part-of .ensures ∙ rw (c .before .page-start .ensures)
+returns c = c .part-of .ensures ∙ ap (λ (at : ℕ). pageFrom at (c .before .before .before .args .flash .now)) (c .before .page-start .ensures)
 
 pub page-of-spec : {M : Type 1} → statement M
 page-of-spec = tie.close (tie.spec page-start-requires part-of-requires returns)
