@@ -1,9 +1,16 @@
+pub mod ByValue
+pub mod Changed
+pub mod Changing
+pub mod Handed
 pub mod InPlace
 pub mod Lending
 pub mod LendingReader
 pub mod LentAllocator
 pub mod LentRun
 pub mod LentSteps
+pub mod LentTypes
+pub mod OneCall
 pub mod PartWalk
+pub mod Reading
 pub mod StepLaws
 pub mod Through
