@@ -36,7 +36,7 @@ use Rattle.lent.proofs.Changed.{Changed, lowOf}
 use Rattle.lent.proofs.Handed.{Plain, slots, kept, stays, Values, spells, tellss, lows, Fine, lasts, fits, Had, had, all-go, carry, carried}
 use Rattle.lent.proofs.InPlace.{changing, Left, Walk}
 use Rattle.lent.proofs.LentSteps.{promised}
-use Rattle.lent.proofs.OneCall.{one-call}
+use Rattle.lent.proofs.FromWalk.{one-call}
 
 module _ (Ps : List Plain) (S : Changed) (f : Allocator → Values 0 tt Ps → S .row .Denot) where
   abbrev lends : Ended

@@ -1,6 +1,7 @@
 pub mod ByValue
 pub mod Changed
 pub mod Changing
+pub mod FromWalk
 pub mod Handed
 pub mod InPlace
 pub mod Lending
@@ -9,7 +10,7 @@ pub mod LentAllocator
 pub mod LentRun
 pub mod LentSteps
 pub mod LentTypes
-pub mod OneCall
+pub mod PartCall
 pub mod PartWalk
 pub mod Reading
 pub mod StepLaws

@@ -34,7 +34,7 @@ use Rattle.lent.proofs.ByValue.{ByValue, called}
 use Rattle.lent.proofs.Handed.{Plain, slots, kept, stays, Values, spells, tellss, lows, Fine, lasts, fits, Had, had, all-go, carry, carried}
 use Rattle.lent.proofs.Through.{reading, Left, Walk}
 use Rattle.lent.proofs.LentSteps.{promised}
-use Rattle.lent.proofs.OneCall.{one-call}
+use Rattle.lent.proofs.FromWalk.{one-call}
 
 module _ (Ps : List Plain) (R : Plain) (f : Allocator → Values 0 tt Ps → R .row .Denot) where
   abbrev lends : Ended
