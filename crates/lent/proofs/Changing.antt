@@ -11,13 +11,12 @@ use base.Logic.{SProp, ent, emp, via, fst∗}
 use base.Fml.{GName, Lft, Share, flft, fobs, fbor}
 use prog.Model.{Model}
 use prog.Routine.{Name, Routine, Env}
-use prog.Wp.{Heap, Calls, Loops, WpFn, Closed}
+use prog.Wp.{Heap, WpFn, Closed}
 use ghost.Atoms.{Atoms}
 use contract.Lifetimes.{Lfts}
 use contract.Running.{GhostRules, Running, givenOf, tables}
 use types.Kit.{Given, ‵, _$_, _∵_, !, qed, move, use0, join, fjoin, fjoin3, feqI, suffices, frame, done}
 use types.SemTy.{Body}
-use sound.WpLaws.{FmC}
 use denote.Laws.{Is}
 use denote.Memory.{mem}
 use denote.Ref.{now, ptr-vals, mut-tells}
@@ -28,15 +27,15 @@ use denote.Triple.Clauses.{Ended, Clauses, atExit, closing}
 use denote.Triple.Entry.{Args}
 use denote.Triple.Spec.{Meets}
 use denote.Triple.Statement.{Triple}
-use denote.Triple.Walked.{Stays, stay-ref, walkOf, goes-ref, Walks, ends-at, walked}
+use denote.Triple.Walked.{Stays, stay-ref, walkOf, goes-ref, ends-at, walked}
 use Rattle.alloc.specs.declared.allocator.Allocator.{Allocator}
 use Rattle.alloc.proofs.allocator.Allocator as T
 use Rattle.lent.proofs.ByValue.{ByValue, called}
 use Rattle.lent.proofs.Changed.{Changed, lowOf}
+use Rattle.lent.proofs.FromWalk.{one-call}
 use Rattle.lent.proofs.Handed.{Plain, slots, kept, stays, Values, spells, tellss, lows, Fine, lasts, fits, Had, had, all-go, carry, carried}
 use Rattle.lent.proofs.InPlace.{changing, Left, Walk}
 use Rattle.lent.proofs.LentSteps.{promised}
-use Rattle.lent.proofs.FromWalk.{one-call}
 
 module _ (Ps : List Plain) (S : Changed) (f : Allocator → Values 0 tt Ps → S .row .Denot) where
   abbrev lends : Ended
@@ -66,20 +65,17 @@ module _ (Ps : List Plain) (S : Changed) (f : Allocator → Values 0 tt Ps → S
           qed W (‵ (fobs γ (T.the-row .coded .code (S .allocator x))) ∷ ‵ (fbor κ (Body (mem T.the-row) b o γ)) ∷ ‵ (flft κ q) ∷ []) ∵
           suffices ! _ (ends-at 𝓤 H A lends stayed c W y (S .answers .low (S .answer x)) (S .answer x) (S .allocator x, lasts 1 (κ, tt) Ps a) (tt, fits 1 (κ, tt) Ps a (lasts 1 (κ, tt) Ps a))) $
           promised ! (holds (κ, tt) (y .0 .3) g) $ nothing ! $ move ! (3 ∷ 0 ∷ []) $ join ! $ frame ! $
-          feqI ! (List Val) (vptr b o ∷ []) (vptr b o ∷ []) refl $ fjoin3 ! $ use0 W (‵ (Had 1 (κ, tt) 𝓤 H A W Ps a)) (had 1 (κ, tt) 𝓤 H A W Ps a are) $ move ! (1 ∷ 0 ∷ []) $ fjoin ! $
+          feqI ! (List Val) (vptr b o ∷ []) (vptr b o ∷ []) refl $ fjoin3 ! $ use0 W (‵ (Had 1 (κ, tt) Ps a)) (had 1 (κ, tt) 𝓤 H A W Ps a are) $ move ! (1 ∷ 0 ∷ []) $ fjoin ! $
           owned ! (S .answers .row) (Is (S .answers .row)) (S .answers .makes 𝓤 H A W) (S .answer x) _ (S .fields x is .0) $ move ! (1 ∷ 0 ∷ []) $ done !
-
-    walks : (H : Heap 𝓤) (A : Atoms 𝓤) (W : Given 𝓤 H A) (key : Name) → Walk Ps S → (C : Calls 𝓤 H) (Λ : Loops 𝓤 H) → FmC 𝓤 H (W .laws) C → Triple 𝓤 (C key) (ByValue Ps (S .row) f 𝓤 H A)
-        → Walks 𝓤 H A lends stayed (WpFn 𝓤 H C Λ (changing key Ps S)) c
-    walks H A W key walk C Λ fm known =
-        walked 𝓤 H A lends stayed c (WpFn 𝓤 H C Λ (changing key Ps S)) (λ κs. (ptr-vals, spells 1 κs Ps)) (λ κs. (mut-tells (named 0) (κs .0) T.the-row, tellss 1 κs Ps)) (λ κs qs bounds a g are.
-        via 𝓤 _ (fst∗ 𝓤 _ (c κs a .requires g))
-        (walk key M 𝓤 H A W (κs .0) (qs .0) (a .0 .ptr .0) (a .0 .ptr .1) (a .0 .name) (now (a .0)) C Λ fm (made κs a) (a .1) (are .1)
-        (called Ps (S .row) f 𝓤 H A W (now (a .0)) (carry 1 0 κs tt Ps (a .1)) (carried 1 0 κs tt Ps (a .1) (are .1)) (C key) known)
-        _ (exits H A W (κs .0) (qs .0) (a .0 .ptr .0) (a .0 .ptr .1) (a .0 .name) (now (a .0)) (a .1) (are .1) g)))
 
     pub changes : (H : Heap 𝓤) (𝓜 : Model 𝓤 H) (𝓖 : GhostRules 𝓤 H) (𝓡 : Running 𝓤 H 𝓜) (γ : Env) (k key : Name) (r : Routine) → Walk Ps S → Closed 𝓤 H (tables 𝓤 H 𝓜 𝓡 γ .C) (tables 𝓤 H 𝓜 𝓡 γ .Λ) k (changing key Ps S)
         → γ key ≡ r → Triple 𝓤 (𝓡 .run r) (ByValue Ps (S .row) f 𝓤 H (𝓖 .A)) → Meets 𝓤 H (𝓖 .A) (lends .signature) (𝓡 .run (γ k)) (closing 𝓤 H (𝓖 .A) lends c)
     changes H 𝓜 𝓖 𝓡 γ k key r walk closed means met =
         one-call 𝓤 H 𝓜 𝓖 𝓡 γ lends stayed (goes-ref 𝓤 H (𝓖 .A) (givenOf 𝓤 H 𝓜 𝓖) 1 0 tt (plain (λ _. T.the-row)), all-go 1 𝓤 H (𝓖 .A) (givenOf 𝓤 H 𝓜 𝓖) Ps) c k (changing key Ps S) closed
-        (ByValue Ps (S .row) f 𝓤 H (𝓖 .A)) key r means met (walks H (𝓖 .A) (givenOf 𝓤 H 𝓜 𝓖) key walk)
+        (ByValue Ps (S .row) f 𝓤 H (𝓖 .A)) key r means met (λ C Λ fm known.
+        let W : Given 𝓤 H (𝓖 .A) = givenOf 𝓤 H 𝓜 𝓖 in
+        walked 𝓤 H (𝓖 .A) lends stayed c (WpFn 𝓤 H C Λ (changing key Ps S)) (λ κs. (ptr-vals, spells 1 κs Ps)) (λ κs. (mut-tells (named 0) (κs .0) T.the-row, tellss 1 κs Ps)) (λ κs qs bounds a g are.
+        via 𝓤 _ (fst∗ 𝓤 _ (c κs a .requires g))
+        (walk key M 𝓤 H (𝓖 .A) W (κs .0) (qs .0) (a .0 .ptr .0) (a .0 .ptr .1) (a .0 .name) (now (a .0)) C Λ fm (made κs a) (a .1) (are .1)
+        (called Ps (S .row) f 𝓤 H (𝓖 .A) W (now (a .0)) (carry 1 0 κs tt Ps (a .1)) (carried 1 0 κs tt Ps (a .1) (are .1)) (C key) known)
+        _ (exits H (𝓖 .A) W (κs .0) (qs .0) (a .0 .ptr .0) (a .0 .ptr .1) (a .0 .name) (now (a .0)) (a .1) (are .1) g))))

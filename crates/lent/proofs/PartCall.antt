@@ -35,9 +35,9 @@ use Rattle.run.proofs.record.Record.Laws as P′
 use Rattle.lent.specs.declared.reader.RunReader.{RunReader}
 use Rattle.lent.proofs.reader.RunReader as T
 use Rattle.lent.proofs.reader.RunReader.Laws as T′
+use Rattle.lent.proofs.FromWalk.{one-call}
 use Rattle.lent.proofs.LentRun.{sliceOf, mach}
 use Rattle.lent.proofs.LentSteps.{promised}
-use Rattle.lent.proofs.FromWalk.{one-call}
 use Rattle.lent.proofs.PartWalk.{part, Part, walk-part}
 
 -- the reader's type, over the signature's lifetimes

@@ -11,12 +11,11 @@ use base.Logic.{SProp, ent, emp, via, fst∗}
 use base.Fml.{GName, Lft, Share, flft, fres, fshr-bor}
 use prog.Model.{Model}
 use prog.Routine.{Name, Routine, Env}
-use prog.Wp.{Heap, Calls, Loops, WpFn, Closed}
+use prog.Wp.{Heap, WpFn, Closed}
 use ghost.Atoms.{Atoms}
 use contract.Lifetimes.{Lfts}
 use contract.Running.{GhostRules, Running, givenOf, tables}
 use types.Kit.{Given, ‵, _$_, _∵_, !, qed, move, use0, join, fjoin, fjoin3, feqI, suffices, frame, done}
-use sound.WpLaws.{FmC}
 use denote.Laws.{Is}
 use denote.Memory.{partAt}
 use denote.Ref.{now, ptr-vals, shr-tells}
@@ -27,14 +26,14 @@ use denote.Triple.Clauses.{Ended, Clauses, atExit, closing}
 use denote.Triple.Entry.{Args}
 use denote.Triple.Spec.{Meets}
 use denote.Triple.Statement.{Triple}
-use denote.Triple.Walked.{Stays, stay-none-ref, walkOf, goes-none-ref, Walks, ends-at, walked}
+use denote.Triple.Walked.{Stays, stay-none-ref, walkOf, goes-none-ref, ends-at, walked}
 use Rattle.alloc.specs.declared.allocator.Allocator.{Allocator}
 use Rattle.alloc.proofs.allocator.Allocator as T
 use Rattle.lent.proofs.ByValue.{ByValue, called}
-use Rattle.lent.proofs.Handed.{Plain, slots, kept, stays, Values, spells, tellss, lows, Fine, lasts, fits, Had, had, all-go, carry, carried}
-use Rattle.lent.proofs.Through.{reading, Left, Walk}
-use Rattle.lent.proofs.LentSteps.{promised}
 use Rattle.lent.proofs.FromWalk.{one-call}
+use Rattle.lent.proofs.Handed.{Plain, slots, kept, stays, Values, spells, tellss, lows, Fine, lasts, fits, Had, had, all-go, carry, carried}
+use Rattle.lent.proofs.LentSteps.{promised}
+use Rattle.lent.proofs.Through.{reading, Left, Walk}
 
 module _ (Ps : List Plain) (R : Plain) (f : Allocator → Values 0 tt Ps → R .row .Denot) where
   abbrev lends : Ended
@@ -64,20 +63,17 @@ module _ (Ps : List Plain) (R : Plain) (f : Allocator → Values 0 tt Ps → R .
           qed W (‵ (flft κ q) ∷ ‵ (fres γ (T.the-row .coded .code h)) ∷ ‵ (fshr-bor κ (λ s. partAt T.the-row s h b o)) ∷ []) ∵
           suffices ! _ (ends-at 𝓤 H A lends stayed c W y (R .low x) x (tt, lasts 1 (κ, tt) Ps a) (tt, fits 1 (κ, tt) Ps a (lasts 1 (κ, tt) Ps a))) $
           promised ! (holds (κ, tt) (y .0 .3) g) $ nothing ! $ move ! (1 ∷ 0 ∷ []) $ join ! $ frame ! $
-          feqI ! (List Val) (vptr b o ∷ []) (vptr b o ∷ []) refl $ fjoin3 ! $ use0 W (‵ (Had 1 (κ, tt) 𝓤 H A W Ps a)) (had 1 (κ, tt) 𝓤 H A W Ps a are) $ move ! (1 ∷ 0 ∷ []) $ fjoin ! $ frame ! $
+          feqI ! (List Val) (vptr b o ∷ []) (vptr b o ∷ []) refl $ fjoin3 ! $ use0 W (‵ (Had 1 (κ, tt) Ps a)) (had 1 (κ, tt) 𝓤 H A W Ps a are) $ move ! (1 ∷ 0 ∷ []) $ fjoin ! $ frame ! $
           owned ! (R .row) (Is (R .row)) (R .makes 𝓤 H A W) x _ is $ done !
-
-    walks : (H : Heap 𝓤) (A : Atoms 𝓤) (W : Given 𝓤 H A) (key : Name) → Walk Ps R → (C : Calls 𝓤 H) (Λ : Loops 𝓤 H) → FmC 𝓤 H (W .laws) C → Triple 𝓤 (C key) (ByValue Ps (R .row) f 𝓤 H A)
-        → Walks 𝓤 H A lends stayed (WpFn 𝓤 H C Λ (reading key Ps R)) c
-    walks H A W key walk C Λ fm known =
-        walked 𝓤 H A lends stayed c (WpFn 𝓤 H C Λ (reading key Ps R)) (λ κs. (ptr-vals, spells 1 κs Ps)) (λ κs. (shr-tells (named 0) (κs .0) T.the-row, tellss 1 κs Ps)) (λ κs qs bounds a g are.
-        via 𝓤 _ (fst∗ 𝓤 _ (c κs a .requires g))
-        (walk key M 𝓤 H A W (κs .0) (qs .0) (a .0 .ptr .0) (a .0 .ptr .1) (a .0 .name) (now (a .0)) C Λ fm (made κs a) (a .1) (are .1)
-        (called Ps (R .row) f 𝓤 H A W (now (a .0)) (carry 1 0 κs tt Ps (a .1)) (carried 1 0 κs tt Ps (a .1) (are .1)) (C key) known)
-        _ (exits H A W (κs .0) (qs .0) (a .0 .ptr .0) (a .0 .ptr .1) (a .0 .name) (now (a .0)) (a .1) (are .1) g)))
 
     pub reads : (H : Heap 𝓤) (𝓜 : Model 𝓤 H) (𝓖 : GhostRules 𝓤 H) (𝓡 : Running 𝓤 H 𝓜) (γ : Env) (k key : Name) (r : Routine) → Walk Ps R → Closed 𝓤 H (tables 𝓤 H 𝓜 𝓡 γ .C) (tables 𝓤 H 𝓜 𝓡 γ .Λ) k (reading key Ps R)
         → γ key ≡ r → Triple 𝓤 (𝓡 .run r) (ByValue Ps (R .row) f 𝓤 H (𝓖 .A)) → Meets 𝓤 H (𝓖 .A) (lends .signature) (𝓡 .run (γ k)) (closing 𝓤 H (𝓖 .A) lends c)
     reads H 𝓜 𝓖 𝓡 γ k key r walk closed means met =
         one-call 𝓤 H 𝓜 𝓖 𝓡 γ lends stayed (goes-none-ref 𝓤 H (𝓖 .A) (givenOf 𝓤 H 𝓜 𝓖) 1 (0 ∷ []) tt (plain (λ _. T.the-row)) yes, all-go 1 𝓤 H (𝓖 .A) (givenOf 𝓤 H 𝓜 𝓖) Ps) c k (reading key Ps R) closed
-        (ByValue Ps (R .row) f 𝓤 H (𝓖 .A)) key r means met (walks H (𝓖 .A) (givenOf 𝓤 H 𝓜 𝓖) key walk)
+        (ByValue Ps (R .row) f 𝓤 H (𝓖 .A)) key r means met (λ C Λ fm known.
+        let W : Given 𝓤 H (𝓖 .A) = givenOf 𝓤 H 𝓜 𝓖 in
+        walked 𝓤 H (𝓖 .A) lends stayed c (WpFn 𝓤 H C Λ (reading key Ps R)) (λ κs. (ptr-vals, spells 1 κs Ps)) (λ κs. (shr-tells (named 0) (κs .0) T.the-row, tellss 1 κs Ps)) (λ κs qs bounds a g are.
+        via 𝓤 _ (fst∗ 𝓤 _ (c κs a .requires g))
+        (walk key M 𝓤 H (𝓖 .A) W (κs .0) (qs .0) (a .0 .ptr .0) (a .0 .ptr .1) (a .0 .name) (now (a .0)) C Λ fm (made κs a) (a .1) (are .1)
+        (called Ps (R .row) f 𝓤 H (𝓖 .A) W (now (a .0)) (carry 1 0 κs tt Ps (a .1)) (carried 1 0 κs tt Ps (a .1) (are .1)) (C key) known)
+        _ (exits H (𝓖 .A) W (κs .0) (qs .0) (a .0 .ptr .0) (a .0 .ptr .1) (a .0 .name) (now (a .0)) (a .1) (are .1) g))))

@@ -90,4 +90,4 @@ pub new-spec : {M : Type 1} → stated.statement M
 unfolding code.routine
 new-spec 𝓤 H 𝓜 𝓖 𝓡 =
     enters 𝓤 H 𝓜 𝓖 𝓡 code.env new.ended stayed (goes-none-slice 𝓤 H (𝓖 .A) (givenOf 𝓤 H 𝓜 𝓖) 1 (0 ∷ []) tt (plain (λ _. u8)) yes, tt) (new.clauses 𝓤 H (𝓖 .A) (𝓜 .mem) (𝓡 .run)) #lent code.function (code.unfolded 𝓤 H 𝓜 𝓡)
-    (walks 𝓤 H (𝓖 .A) (givenOf 𝓤 H 𝓜 𝓖) (𝓜 .mem) (𝓡 .run) (tables 𝓤 H 𝓜 𝓡 code.env .C) (tables 𝓤 H 𝓜 𝓡 code.env .Λ))
+    (λ _. walks 𝓤 H (𝓖 .A) (givenOf 𝓤 H 𝓜 𝓖) (𝓜 .mem) (𝓡 .run) (tables 𝓤 H 𝓜 𝓡 code.env .C) (tables 𝓤 H 𝓜 𝓡 code.env .Λ))

@@ -12,14 +12,14 @@ use base.Logic.{SProp, ent, sep, emp, via, fst∗, id⊢}
 use base.Fml.{GName, Fml, ftrue, flft}
 use prog.Memory.{Memory}
 use prog.Routine.{Routine}
-use prog.Wp.{Heap, Calls, Loops, WpFn, Tables}
+use prog.Wp.{Heap, Calls, Loops, WpFn}
 use ghost.Atoms.{Atoms, sem}
 use contract.Monad.{Fun}
-use contract.Running.{givenOf, tables, tablesOf}
+use contract.Running.{givenOf, tables}
 use types.Kit.{Given, ‵, raw, _⊛_, ⋆, _$_, _∵_, !, qed, by, move, keep, drop, use0, use2, split, join, fjoin, suffices, frame, done}
 use types.Part.{agg}
 use types.Run.{look, init, forget, stop, from, load, lit, addr, and-then, no-more, of-opd, assigns, land, returns, enter, alloc1, alloc0, params1, pass0, free1, free0}
-use sound.WpLaws.{FmC, fmOf, WpFn-mono}
+use sound.WpLaws.{FmC}
 use denote.Laws.{Is}
 use denote.Plain.{uint-makes}
 use denote.Builtin.{usize, u32}
@@ -31,9 +31,9 @@ use denote.Triple.Statement.{Contract, Triple}
 use denote.Triple.Call.{calls-at}
 use denote.Triple.Clauses.{ensured}
 use denote.Triple.Entry.{onEntry}
-use denote.Triple.Spec.{Meets, tripleOf}
-use denote.Triple.Table.{entered, cited}
-use denote.Triple.Walked.{Stays, walkOf, Walks, ends-at, walked, walk-meets}
+use denote.Triple.Spec.{tripleOf}
+use denote.Triple.Table.{cited}
+use denote.Triple.Walked.{Stays, walkOf, Walks, ends-at, walked}
 use Rattle.alloc.specs.declared.allocator.Allocator.{Allocator}
 use Rattle.alloc.proofs.allocator.Allocator as T
 use Rattle.alloc.proofs.allocator.Allocator.Laws as T′
@@ -59,6 +59,7 @@ use Rattle.lent.proofs.allocator.free_pages as left
 use Rattle.lent.proofs.allocator.free_pages.Symbol as left-def
 use Rattle.lent.proofs.allocator.free_pages.Symbol.{name as #left}
 use Rattle.lent.proofs.allocator.free_pages.Met as left-thm
+use Rattle.lent.proofs.FromWalk.{enters}
 use Rattle.lent.proofs.LentAllocator.{mach, IsAt, typed}
 use Rattle.lent.proofs.LentSteps.{received}
 use Rattle.lent.proofs.Lending.{ByMut, ByShr, lends, comes-back, lends-shared, shared-back}
@@ -187,19 +188,11 @@ module _ {M : Type 1} (𝓤 : URA M) (H : Heap 𝓤) (A : Atoms 𝓤) (W : Given
       walked 𝓤 H A hand-out.ended stayed (hand-out.clauses 𝓤 H A mem run) (WpFn 𝓤 H C Λ code.function) (λ κs. tt) (λ κs. tt)
       (λ κs qs bounds a g are. via 𝓤 _ (fst∗ 𝓤 _ (emp 𝓤)) (walk 𝓤 H A W mem run C Λ fm known-new known-reset known-try known-left))
 
-meets : {M : Type 1} (𝓤 : URA M) (H : Heap 𝓤) (A : Atoms 𝓤) (W : Given 𝓤 H A) (mem : Memory → SProp 𝓤) (run : Routine → Fun 𝓤) (𝓣 : Tables 𝓤 H)
-    → Triple 𝓤 (𝓣 .C #new) (New 𝓤 H A mem run) → Triple 𝓤 (𝓣 .C #reset) (Reset 𝓤 H A mem run) → Triple 𝓤 (𝓣 .C #try) (Try 𝓤 H A mem run) → Triple 𝓤 (𝓣 .C #left) (Left 𝓤 H A mem run)
-    → Meets 𝓤 H A hand-out.signature (WpFn 𝓤 H (𝓣 .C) (𝓣 .Λ) code.function) (hand-out.spec 𝓤 H A mem run)
-meets 𝓤 H A W mem run 𝓣 known-new known-reset known-try known-left =
-    walk-meets 𝓤 H A hand-out.ended stayed W tt (hand-out.clauses 𝓤 H A mem run) (WpFn 𝓤 H (𝓣 .C) (𝓣 .Λ) code.function) (WpFn-mono 𝓤 H (W .laws) 𝓣 code.function)
-    (walks 𝓤 H A W mem run (𝓣 .C) (𝓣 .Λ) (fmOf 𝓤 H (W .laws) 𝓣) known-new known-reset known-try known-left)
-
 pub hand-out-spec : {M : Type 1} → stated.statement M
-unfolding code.routine tablesOf
+unfolding code.routine
 hand-out-spec 𝓤 H 𝓜 𝓖 𝓡 =
-    entered 𝓤 H (tripleOf 𝓤 H (𝓖 .A) hand-out.signature (hand-out.spec 𝓤 H (𝓖 .A) (𝓜 .mem) (𝓡 .run)))
-    (tables 𝓤 H 𝓜 𝓡 code.env .C) (tables 𝓤 H 𝓜 𝓡 code.env .Λ) #hand-out code.function (code.unfolded 𝓤 H 𝓜 𝓡)
-    (meets 𝓤 H (𝓖 .A) (givenOf 𝓤 H 𝓜 𝓖) (𝓜 .mem) (𝓡 .run) (tablesOf 𝓤 H 𝓜 (tables 𝓤 H 𝓜 𝓡 code.env))
+    enters 𝓤 H 𝓜 𝓖 𝓡 code.env hand-out.ended stayed tt (hand-out.clauses 𝓤 H (𝓖 .A) (𝓜 .mem) (𝓡 .run)) #hand-out code.function (code.unfolded 𝓤 H 𝓜 𝓡) (λ fm.
+    walks 𝓤 H (𝓖 .A) (givenOf 𝓤 H 𝓜 𝓖) (𝓜 .mem) (𝓡 .run) (tables 𝓤 H 𝓜 𝓡 code.env .C) (tables 𝓤 H 𝓜 𝓡 code.env .Λ) fm
     (cited 𝓤 H (New 𝓤 H (𝓖 .A) (𝓜 .mem) (𝓡 .run)) 𝓜 𝓡 code.env #new new-def.routine code.calls-alloc·allocator·Allocator·new (new-thm.met 𝓤 H 𝓜 𝓖 𝓡))
     (cited 𝓤 H (Reset 𝓤 H (𝓖 .A) (𝓜 .mem) (𝓡 .run)) 𝓜 𝓡 code.env #reset reset-def.routine code.calls-lent·allocator·reset (reset-thm.met 𝓤 H 𝓜 𝓖 𝓡))
     (cited 𝓤 H (Try 𝓤 H (𝓖 .A) (𝓜 .mem) (𝓡 .run)) 𝓜 𝓡 code.env #try try-def.routine code.calls-lent·allocator·try-allocate (try-thm.met 𝓤 H 𝓜 𝓖 𝓡))
