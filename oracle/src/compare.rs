@@ -30,7 +30,7 @@ fn asks_the_original(line: &str) -> bool {
     match (words.next(), words.next()) {
         (Some("crc"), _) => true,
         (Some("alloc" | "reader" | "writer" | "cursor"), Some(call)) => {
-            !matches!(call, "forge" | "state" | "left" | "margin")
+            !matches!(call, "forge" | "state" | "left" | "margin" | "try_allocate_each" | "free_each")
         }
         _ => false,
     }

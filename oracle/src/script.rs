@@ -1,5 +1,5 @@
 //! The words of a script's line, and the words of an answer (docs/ORACLE.md has the format).
-use crate::config::FILE_COUNT;
+use crate::config::{FILE_COUNT, MAX_PAGE_COUNT};
 use std::ops::Bound;
 
 /// What a program that reads scripts must have room for, and what a script must keep to.
@@ -52,6 +52,15 @@ impl<'a> Words<'a> {
 
     pub fn page(&mut self) -> Result<u16, Fault> {
         Ok(self.number_to(u16::MAX.into())? as u16)
+    }
+
+    /// Every word that is left, as pages.
+    pub fn pages(&mut self) -> Result<Vec<u16>, Fault> {
+        let pages: Vec<u16> = self.rest.by_ref().map(|word| Words::of(word).page()).collect::<Result<_, _>>()?;
+        if pages.len() > MAX_PAGE_COUNT {
+            return Err(format!("more than {MAX_PAGE_COUNT} pages"));
+        }
+        Ok(pages)
     }
 
     pub fn flag(&mut self) -> Result<bool, Fault> {

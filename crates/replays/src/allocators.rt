@@ -3,9 +3,12 @@ use crate::args::Page;
 use crate::args::Seed;
 use crate::args::bytes_at;
 use crate::args::number_at;
+use crate::args::number_to;
 use crate::args::page_at;
 use crate::args::seed_at;
 use crate::say;
+use crate::several::allocated_each;
+use crate::several::pages_in;
 use crate::world::World;
 use alloc::allocator::Allocator;
 use alloc::answers::Allocated;
@@ -14,11 +17,13 @@ use alloc::answers::Count;
 use alloc::answers::Margin;
 use alloc::answers::Outcome;
 use alloc::answers::Usage;
+use alloc::several;
 use check::same;
 use digits::number::Number;
 use script::words::word_at;
 use script::words::word_count;
 use types::config::MAX_PAGE_COUNT;
+use types::num::least;
 
 const MARK_BYTES: usize = MAX_PAGE_COUNT / 8;
 
@@ -86,6 +91,27 @@ fn free(w: World, line: &[u8]) -> World {
     };
     let a = w.allocator;
     changed(w, a.free(page))
+}
+
+fn try_allocate_each(w: World, line: &[u8]) -> World {
+    let Number::Value(places) = number_to(line, 2, MAX_PAGE_COUNT) else {
+        return w.stopped();
+    };
+    let mut raws = [0u16; MAX_PAGE_COUNT];
+    let end = least(MAX_PAGE_COUNT, places);
+    let a = w.allocator;
+    w.with_allocator(allocated_each(a, &mut raws[0..end]))
+}
+
+fn free_each(w: World, words: usize, line: &[u8]) -> World {
+    // A place more than there are pages, so that one page too many is seen.
+    let mut raws = [0u16; MAX_PAGE_COUNT + 1];
+    let Number::Value(n) = pages_in(line, words, &mut raws) else {
+        return w.stopped();
+    };
+    let a = w.allocator;
+    let end = least(MAX_PAGE_COUNT, n);
+    changed(w, several::free_each(a, &raws[0..end]))
 }
 
 fn is_used(w: World, line: &[u8]) -> World {
@@ -206,6 +232,12 @@ pub(crate) fn answer(w: World, line: &[u8]) -> World {
     }
     if same(name, b"try_allocate") & (words == 2) {
         return try_allocate(w);
+    }
+    if same(name, b"try_allocate_each") & (words == 3) {
+        return try_allocate_each(w, line);
+    }
+    if same(name, b"free_each") {
+        return free_each(w, words, line);
     }
     if same(name, b"mark_used") & (words == 3) {
         return mark_used(w, line);

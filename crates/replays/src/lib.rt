@@ -8,6 +8,7 @@ mod lines;
 mod readers;
 mod runs;
 mod say;
+mod several;
 mod slots;
 mod stores;
 mod sums;

@@ -19,7 +19,9 @@ pub fn allocators() -> Vec<String> {
 /// A new one, and document 01's own numbers.
 fn document_01() -> Vec<String> {
     let row = "new|page_count|try_allocate|free_pages|margin 0|margin 256|state|reset 4 7|try_allocate|try_allocate\
-        |try_allocate|try_allocate|try_allocate|state|free 1|try_allocate|try_allocate|reset 100 0|margin 101";
+        |try_allocate|try_allocate|try_allocate|state|free 1|try_allocate|try_allocate|reset 100 0|margin 101\
+        |reset 4 7|try_allocate_each 6|free_each 1 3|free_each 1|state|try_allocate_each 1\
+        |free_each|try_allocate_each 0|state";
     row.split('|').map(String::from).collect()
 }
 
@@ -40,6 +42,8 @@ fn filled(rng: &mut Rng, calls: &mut Vec<String>, count: usize) {
     calls.push("used_pages".into());
     calls.extend(rng.shuffled(count).iter().map(|page| format!("free {page}")));
     calls.extend(["free 0", "free_pages", "try_allocate", "state"].map(String::from));
+    let pages: String = rng.shuffled(count).iter().map(|page| format!(" {page}")).collect();
+    calls.extend([format!("try_allocate_each {}", count.min(255) + 1), format!("free_each{pages}"), "state".into()]);
 }
 
 /// A few of each call, pages used and free, also those that are refused.

@@ -15,6 +15,8 @@ impl Gen<'_> {
             0 => {
                 self.fill_up(count);
                 self.empty(count);
+                self.say(&format!("alloc try_allocate_each {count}"));
+                self.free_all(count);
                 self.mixed(count, 10);
             }
             1 => {
@@ -54,6 +56,32 @@ impl Gen<'_> {
         self.say("alloc state");
     }
 
+    /// Pages in any order, one of them now and then twice or not there.
+    fn free_some(&mut self, count: usize) -> String {
+        let some = self.rng.below(1 + count.min(9));
+        let mut pages: Vec<usize> = self.rng.shuffled(count).into_iter().take(some).collect();
+        match self.rng.below(6) {
+            0 => pages.extend(pages.first().copied()),
+            1 => {
+                let at = self.rng.below(pages.len() + 1);
+                pages.insert(at, *self.rng.pick(&[count, 256, 65534, 65535]));
+            }
+            2 => {
+                pages.extend(pages.first().copied());
+                pages.push(count);
+            }
+            _ => {}
+        }
+        let words: String = pages.iter().map(|page| format!(" {page}")).collect();
+        self.say(&format!("alloc free_each{words}"))
+    }
+
+    fn free_all(&mut self, count: usize) {
+        let words: String = self.rng.shuffled(count).iter().map(|page| format!(" {page}")).collect();
+        self.say(&format!("alloc free_each{words}"));
+        self.say("alloc state");
+    }
+
     fn mark_some(&mut self, count: usize) {
         for page in self.rng.shuffled(count).into_iter().take(count / 2) {
             self.say(&format!("alloc mark_used {page}"));
@@ -67,7 +95,12 @@ impl Gen<'_> {
                 _ => self.rng.below(count),
             };
             let wanted = *self.rng.pick(&[0, 1, count, 255, 256, 257, 1 << 40]);
-            match self.rng.below(16) {
+            match self.rng.below(18) {
+                16 => {
+                    let places = *self.rng.pick(&[0, 1, 2, 8, count, 256]);
+                    self.say(&format!("alloc try_allocate_each {places}"))
+                }
+                17 => self.free_some(count),
                 0..=4 => self.say("alloc try_allocate"),
                 5..=7 => self.say(&format!("alloc free {page}")),
                 8..=9 => self.say(&format!("alloc mark_used {page}")),
@@ -93,6 +126,8 @@ impl Gen<'_> {
         };
         for call in [
             "try_allocate",
+            "try_allocate_each 3",
+            "free_each",
             "free 0",
             "margin 5",
             "used_pages",

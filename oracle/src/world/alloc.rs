@@ -2,6 +2,7 @@
 use super::rules::{allocator_fine, count_fine, first};
 use super::{caught, ok, unknown, Told, World};
 use crate::alloc::{peek, Allocator};
+use crate::config::MAX_PAGE_COUNT;
 use crate::errors::CorruptedError;
 use crate::script::{hex, Fault, Words};
 use crate::types::PageID;
@@ -27,6 +28,11 @@ impl World {
                 Some(page) => Ok(format!("ok {}", page.index())),
                 None => Ok("none".into()),
             }),
+            "try_allocate_each" => {
+                let places = words.size_to(MAX_PAGE_COUNT)?;
+                self.of_allocator(|a| Ok(handed_out(a, places)))
+            }
+            "free_each" => self.free_each(&words.pages()?),
             "mark_used" => self.of_page(words.page()?, |a, page| a.mark_used(page).map(|()| "ok".into())),
             "free" => self.of_page(words.page()?, |a, page| a.free(page).map(|()| "ok".into())),
             "is_used" => self.of_page(words.page()?, |a, page| Ok(format!("ok {}", u8::from(a.is_used(page))))),
@@ -60,6 +66,28 @@ impl World {
         })
     }
 
+    /// The original has no call for several pages: these are its calls one after the other. A page that is not there ends them, and like
+    /// every refusal leaves the allocator as at entry.
+    fn free_each(&mut self, pages: &[u16]) -> Told {
+        let start = self.alloc;
+        let there = pages.iter().take_while(|&&page| page != u16::MAX && u64::from(page) < start.count).count();
+        let told = self.of_allocator(|a| {
+            for &page in &pages[..there] {
+                a.free(PageID::from_raw(page).unwrap())?;
+            }
+            Ok("ok".into())
+        });
+        match (&told, pages.get(there)) {
+            (Told::Rust(text), Some(&page)) if text == "ok" => {
+                if !self.raw() {
+                    self.alloc = start;
+                }
+                self.of_page(page, |a, page| a.free(page).map(|()| "ok".into()))
+            }
+            _ => told,
+        }
+    }
+
     fn of_allocator(&mut self, work: impl FnOnce(&mut Allocator) -> Done) -> Told {
         self.on_allocator(first([(11, allocator_fine(&self.alloc))]), work)
     }
@@ -90,6 +118,13 @@ impl World {
             None => Told::Panic,
         }
     }
+}
+
+/// Pages for so many places, until there is none.
+fn handed_out(a: &mut Allocator, places: usize) -> String {
+    let pages: Vec<usize> = (0..places).map_while(|_| a.try_allocate()).map(|page| page.index()).collect();
+    let words: String = pages.iter().map(|page| format!(" {page}")).collect();
+    format!("ok {}{words}", pages.len())
 }
 
 fn forged(words: &mut Words) -> Result<peek::Fields, Fault> {
