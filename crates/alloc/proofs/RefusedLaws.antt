@@ -5,11 +5,11 @@ use mathlib.Core.List.{List, [], _∷_}
 use Prim.Native.Nat.{ℕ, _%_}
 use Rattle.types.specs.declared.page_id.MaybePageID.{MaybePageID}
 use Rattle.types.specs.declared.page_id.MaybePageID.the-variants.{None, Some}
-use Rattle.alloc.specs.Answers.{outcomeTold, allocatedTold}
+use Rattle.alloc.specs.Answers.{outcomeTold, allocatedTold, pagesTold}
 use Rattle.alloc.specs.Calls as calls
 use Rattle.alloc.specs.Calls.{found, done, corrupted, changeAfter, allocationAfter, handingOut}
 use Rattle.alloc.specs.Checks.{stateCheck, pageCheck, countCheck}
-use Rattle.alloc.specs.History.{Call, reset, tryAllocate, markUsed, free, isUsed, usedPages, freePages, pageCount, margin, tryAllocateEach, freeEach, pagesTold, answerTo, leftBy}
+use Rattle.alloc.specs.History.{Call, reset, tryAllocate, markUsed, free, isUsed, usedPages, freePages, pageCount, margin, tryAllocateEach, freeEach, answerTo, leftBy}
 use Rattle.alloc.specs.Marks.{isMarked}
 use Rattle.alloc.specs.Several as several
 use Rattle.alloc.specs.Several.{Handed, handedBy, allocationsAfter, onward, freeOn}

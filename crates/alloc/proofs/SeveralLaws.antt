@@ -1,4 +1,4 @@
--- Turn by turn, the loops of several.rt make what calls one after the other make. Assumes nothing.
+-- Turn by turn, the loops of several.rt make what their definitions make of calls one after the other. Assumes nothing.
 use mathlib.Core.Path.{_≡_, refl, sym, ap, _∙_}
 use mathlib.Core.Bool.{true, false}
 use mathlib.Core.List.{List, [], _∷_, _++_, append-nil}

@@ -1,5 +1,5 @@
 -- Each answer in document 01's words: the number of the row that refuses, 0 where none does, and the values. Assumes nothing.
-use mathlib.Core.List.{List, [], _∷_}
+use mathlib.Core.List.{List, [], _∷_, map}
 use Prim.Native.Nat.{ℕ}
 use lib.IntN.{ℤ, pos}
 use Rattle.types.specs.Refusals.{numberOf}
@@ -50,6 +50,11 @@ usageTold (usage.Refused why) = refusal why
 abbrev pub countTold : Count → Told
 countTold (count.Pages n) = value (pos n)
 countTold (count.Refused why) = refusal why
+
+-- how many pages, and then each of them
+abbrev pub pagesTold : Count → List ℕ → Told
+pagesTold (count.Pages n) pages = record { number = 0; values = pos n ∷ map pos pages }
+pagesTold (count.Refused why) pages = refusal why
 
 abbrev pub marginTold : Margin → Told
 marginTold (margin.Pages z) = value z

@@ -1,13 +1,10 @@
 -- Calls one after another, each on the allocator that the one before left. Assumes nothing.
-use mathlib.Core.List.{List, [], _∷_, map}
+use mathlib.Core.List.{List, [], _∷_}
 use Prim.Native.Nat.{ℕ}
-use lib.IntN.{pos}
-use Rattle.alloc.specs.Answers.{Told, refusal, allocatedTold, outcomeTold, usageTold, countTold, marginTold}
+use Rattle.alloc.specs.Answers.{Told, allocatedTold, outcomeTold, usageTold, countTold, pagesTold, marginTold}
 use Rattle.alloc.specs.Calls as calls
 use Rattle.alloc.specs.Several as several
 use Rattle.alloc.specs.declared.allocator.Allocator.{Allocator}
-use Rattle.alloc.specs.declared.answers.Count.{Count}
-use Rattle.alloc.specs.declared.answers.Count.the-variants.{Pages, Refused}
 
 -- a call, with its arguments
 pub data Call : Type 0 where
@@ -18,11 +15,6 @@ pub data Call : Type 0 where
   margin : ℕ → Call
   tryAllocateEach : ℕ → Call
   freeEach : List ℕ → Call
-
--- how many pages, and then each of them
-abbrev pub pagesTold : Count → List ℕ → Told
-pagesTold (Pages n) pages = record { number = 0; values = pos n ∷ map pos pages }
-pagesTold (Refused why) pages = refusal why
 
 -- what it answers
 unfoldable pub answerTo : Allocator → Call → Told

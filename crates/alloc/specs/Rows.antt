@@ -56,7 +56,7 @@ abbrev pub allOrNone : Row
 allOrNone =
     record {
       calls =
-          reset 4 7 ∷ tryAllocateEach 4 ∷ freeEach (0 ∷ 2 ∷ 0 ∷ []) ∷ freeEach (0 ∷ 4 ∷ []) ∷ freeEach (0xFFFF ∷ 0 ∷ 0 ∷ []) ∷ freePages
+          reset 4 7 ∷ tryAllocateEach 4 ∷ freeEach (0 ∷ 2 ∷ 0 ∷ []) ∷ freeEach (0 ∷ 4 ∷ []) ∷ freeEach (0xFFFF ∷ 0 ∷ 0 ∷ []) ∷ freeEach (0 ∷ 0 ∷ 4 ∷ []) ∷ freePages
           ∷ freeEach (3 ∷ 0 ∷ []) ∷ freeEach [] ∷ freePages ∷ [];
       answers =
           nothing
@@ -64,6 +64,7 @@ allOrNone =
           ∷ refusal Corrupted
           ∷ refusal OutOfRange
           ∷ refusal OutOfRange
+          ∷ refusal Corrupted
           ∷ value (pos 0)
           ∷ nothing
           ∷ nothing

@@ -1,5 +1,5 @@
--- Several pages by one call: calls of try_allocate, or of free, each on the allocator that the one before left. The state is checked
--- even where no page is asked for. Assumes nothing.
+-- Several pages by one call: calls of try_allocate, or of free, each on the allocator that the one before left; but where one of the
+-- pages cannot be freed, none is. The state is checked even where no page is asked for. Assumes nothing.
 use mathlib.Core.List.{List, [], _∷_, _++_}
 use Prim.Native.Nat.{ℕ, zero, suc}
 use lib.ListN.{length, drop}
@@ -23,6 +23,7 @@ pub record Handed : Type 0 where
   pub pages : List ℕ
   pub allocator : Allocator
 
+-- none
 abbrev pub nothingHanded : Allocator → Handed
 nothingHanded a = record { pages = []; allocator = a }
 
@@ -50,6 +51,7 @@ allocateEach a n = allocationsAfter (stateCheck a) a (handedBy n a)
 abbrev pub putFirst : List ℕ → List ℕ → List ℕ
 putFirst pages places = pages ++ drop (length pages) places
 
+-- the places that were lent, after try_allocate_each
 unfoldable pub placesAfter : Allocator → List ℕ → List ℕ
 placesAfter a places = putFirst (handedBy (length places) a .pages) places
 
@@ -66,5 +68,6 @@ freeOn start [] a = done a
 freeOn start (p ∷ ps) a =
     onward (free a (record { 0 = p }) .answer) start (freeOn start ps (free a (record { 0 = p }) .allocator))
 
+-- all of them, from the start
 unfoldable pub freeEach : Allocator → List ℕ → Change
 freeEach a pages = changeAfter (stateCheck a) a (freeOn a pages a)

@@ -1,5 +1,4 @@
-// Several pages by one call. It answers as calls one after the other would, and checks the state once.
-// Pages go and come as raw numbers: a function over a slice of structs would have to be proved by hand.
+// Several pages by one call: the same as calls one after the other, but that the state is checked once and that a refused call frees none.
 ghost use mathlib.Core.Path.{_≡_};
 ghost use lib.ListN.{length};
 ghost use Rattle.alloc.specs.Several.{allocateEach, placesAfter, freeEach};

@@ -15,6 +15,7 @@ use Rattle.exports.specs.Allocations.{begun}
 use Rattle.exports.specs.Telling.{mixed}
 use Rattle.exports.specs.declared.allocating.Tally.{Tally}
 
+-- how many pages
 abbrev pub pagesOf : Count → ℕ
 pagesOf (Pages n) = n
 pagesOf (Refused why) = 0
@@ -32,13 +33,15 @@ closed sum c = mixed (mixed sum (outcomeTold (c .answer) .number)) (countCode (f
 abbrev pub givenBack : ℕ → Allocator → ℕ → List ℕ → ℕ
 givenBack sum a n places = closed sum (freeEach a (take n places))
 
--- what was handed out goes into the sum, and is freed
+-- how many pages were handed out goes into the sum, and they are freed
 abbrev pub eachSum : ℕ → Allocations → List ℕ → ℕ
 eachSum sum given places = givenBack (mixed sum (countCode (given .answer))) (given .allocator) (pagesOf (given .answer)) places
 
+-- the job, once the allocator is reset
 abbrev eachAfter : Tally → List ℕ → ℕ
 eachAfter t places = eachSum (t .sum) (allocateEach (t .allocator) (length places)) (placesAfter (t .allocator) places)
 
+-- the job
 unfoldable pub allocEach : ℕ → ℕ → List ℕ → ℕ
 allocEach count seed places = eachAfter (begun count seed) places
 
