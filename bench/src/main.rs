@@ -183,8 +183,12 @@ fn main() {
 
     let (mut places, mut places2) = ([0; 256], [0; 256]);
     let sides = vec![
-        side("the library", || ours::alloc_each(black_box(256), black_box(77), &mut places)),
-        side("the original", || theirs::alloc_each(black_box(256), black_box(77), &mut places2)),
+        side("the library", || {
+            ours::alloc_each(black_box(256), black_box(77), &mut places)
+        }),
+        side("the original", || {
+            theirs::alloc_each(black_box(256), black_box(77), &mut places2)
+        }),
     ];
     measure("256 pages allocated and freed", 100, rounds, sides);
     if places != places2 || places[0] != 77 {

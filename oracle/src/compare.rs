@@ -29,9 +29,10 @@ fn asks_the_original(line: &str) -> bool {
     let mut words = line.split(' ');
     match (words.next(), words.next()) {
         (Some("crc"), _) => true,
-        (Some("alloc" | "reader" | "writer" | "cursor"), Some(call)) => {
-            !matches!(call, "forge" | "state" | "left" | "margin" | "try_allocate_each" | "free_each")
-        }
+        (Some("alloc" | "reader" | "writer" | "cursor"), Some(call)) => !matches!(
+            call,
+            "forge" | "state" | "left" | "margin" | "try_allocate_each" | "free_each"
+        ),
         _ => false,
     }
 }

@@ -56,7 +56,11 @@ impl<'a> Words<'a> {
 
     /// Every word that is left, as pages.
     pub fn pages(&mut self) -> Result<Vec<u16>, Fault> {
-        let pages: Vec<u16> = self.rest.by_ref().map(|word| Words::of(word).page()).collect::<Result<_, _>>()?;
+        let pages: Vec<u16> = self
+            .rest
+            .by_ref()
+            .map(|word| Words::of(word).page())
+            .collect::<Result<_, _>>()?;
         if pages.len() > MAX_PAGE_COUNT {
             return Err(format!("more than {MAX_PAGE_COUNT} pages"));
         }
@@ -146,6 +150,11 @@ fn digit(d: u8) -> Option<u8> {
         b'a'..=b'f' => Some(d - b'a' + 10),
         _ => None,
     }
+}
+
+/// Pages as words, each behind a space.
+pub fn spaced(pages: &[usize]) -> String {
+    pages.iter().map(|page| format!(" {page}")).collect()
 }
 
 pub fn hex(bytes: &[u8]) -> String {

@@ -1,6 +1,6 @@
 -- A call that changes a lent allocator meets its contract: it answers what the by-value call answers, and leaves the allocator that this
 -- leaves. It is for any such call: the types Ps of its arguments, the struct S that the by-value call answers, the f that this one
--- c, and a walk of `InPlace` for as many arguments. Assumes nothing.
+-- promises, the clauses c, and a walk of `InPlace` for as many arguments. Assumes nothing.
 use mathlib.Core.Path.{_≡_, refl}
 use Prim.Native.Nat.{ℕ}
 use mathlib.Core.List.{List, [], _∷_}

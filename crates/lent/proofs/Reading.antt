@@ -1,6 +1,6 @@
 -- A call that reads a lent allocator meets its contract: it answers what the by-value call answers. It is for any such call: the types Ps
--- of its arguments, the type R of its answer, the f that the by-value call c, and a walk of `Through` for as many arguments.
--- Assumes nothing.
+-- of its arguments, the type R of its answer, the f that the by-value call promises, the clauses c, and a walk of `Through` for as many
+-- arguments. Assumes nothing.
 use mathlib.Core.Path.{_≡_, refl}
 use Prim.Native.Nat.{ℕ}
 use mathlib.Core.List.{List, [], _∷_}

@@ -1,5 +1,6 @@
 //! The allocator: every count from 1 to 256, seeds below, at and over it, some allocators filled up and emptied.
 use crate::rng::Rng;
+use crate::script::spaced;
 
 pub fn allocators() -> Vec<String> {
     let mut rng = Rng::new(2);
@@ -42,8 +43,12 @@ fn filled(rng: &mut Rng, calls: &mut Vec<String>, count: usize) {
     calls.push("used_pages".into());
     calls.extend(rng.shuffled(count).iter().map(|page| format!("free {page}")));
     calls.extend(["free 0", "free_pages", "try_allocate", "state"].map(String::from));
-    let pages: String = rng.shuffled(count).iter().map(|page| format!(" {page}")).collect();
-    calls.extend([format!("try_allocate_each {}", count.min(255) + 1), format!("free_each{pages}"), "state".into()]);
+    let pages = spaced(&rng.shuffled(count));
+    calls.extend([
+        format!("try_allocate_each {}", count.min(255) + 1),
+        format!("free_each{pages}"),
+        "state".into(),
+    ]);
 }
 
 /// A few of each call, pages used and free, also those that are refused.

@@ -1,6 +1,6 @@
 //! Episodes on the allocator: one count each, filled up, emptied, or used at random.
 use super::Gen;
-use crate::script::hex;
+use crate::script::{hex, spaced};
 
 impl Gen<'_> {
     pub fn allocator(&mut self) {
@@ -72,13 +72,12 @@ impl Gen<'_> {
             }
             _ => {}
         }
-        let words: String = pages.iter().map(|page| format!(" {page}")).collect();
-        self.say(&format!("alloc free_each{words}"))
+        self.say(&format!("alloc free_each{}", spaced(&pages)))
     }
 
     fn free_all(&mut self, count: usize) {
-        let words: String = self.rng.shuffled(count).iter().map(|page| format!(" {page}")).collect();
-        self.say(&format!("alloc free_each{words}"));
+        let pages = self.rng.shuffled(count);
+        self.say(&format!("alloc free_each{}", spaced(&pages)));
         self.say("alloc state");
     }
 

@@ -4,7 +4,7 @@ use super::{caught, ok, unknown, Told, World};
 use crate::alloc::{peek, Allocator};
 use crate::config::MAX_PAGE_COUNT;
 use crate::errors::CorruptedError;
-use crate::script::{hex, Fault, Words};
+use crate::script::{hex, spaced, Fault, Words};
 use crate::types::PageID;
 
 pub fn at_start() -> peek::Fields {
@@ -70,7 +70,10 @@ impl World {
     /// every refusal leaves the allocator as at entry.
     fn free_each(&mut self, pages: &[u16]) -> Told {
         let start = self.alloc;
-        let there = pages.iter().take_while(|&&page| page != u16::MAX && u64::from(page) < start.count).count();
+        let there = pages
+            .iter()
+            .take_while(|&&page| page != u16::MAX && u64::from(page) < start.count)
+            .count();
         let told = self.of_allocator(|a| {
             for &page in &pages[..there] {
                 a.free(PageID::from_raw(page).unwrap())?;
@@ -122,9 +125,11 @@ impl World {
 
 /// Pages for so many places, until there is none.
 fn handed_out(a: &mut Allocator, places: usize) -> String {
-    let pages: Vec<usize> = (0..places).map_while(|_| a.try_allocate()).map(|page| page.index()).collect();
-    let words: String = pages.iter().map(|page| format!(" {page}")).collect();
-    format!("ok {}{words}", pages.len())
+    let pages: Vec<usize> = (0..places)
+        .map_while(|_| a.try_allocate())
+        .map(|page| page.index())
+        .collect();
+    format!("ok {}{}", pages.len(), spaced(&pages))
 }
 
 fn forged(words: &mut Words) -> Result<peek::Fields, Fault> {
