@@ -11,9 +11,11 @@ use Rattle.alloc.specs.Several.{handedBy, allocateEach, freeOn, freeEach
 use Rattle.alloc.specs.State.{inRange}
 
 pub rows-hold : map outcomeOf rows ≡ map (λ (row : Row). row .answers) rows
-unfolding outcomeOf answersTo answerTo leftBy reset markUsed free tryAllocate isUsed usedPages freePages pageCount marginOf inRange stateCheck pageCheck wantedCheck countCheck upFrom roundFrom firstFree bitsOf marksOf countOf marking freeing
+unfolding outcomeOf answersTo answerTo leftBy reset markUsed free tryAllocate isUsed usedPages freePages pageCount marginOf inRange stateCheck pageCheck wantedCheck countCheck
+    upFrom roundFrom firstFree bitsOf marksOf countOf marking freeing
 rows-hold = refl
 
 pub several-rows-hold : map outcomeOf severalRows ≡ map (λ (row : Row). row .answers) severalRows
-unfolding outcomeOf answersTo answerTo leftBy reset free tryAllocate freePages handedBy allocateEach freeOn freeEach inRange stateCheck pageCheck countCheck upFrom roundFrom firstFree bitsOf marksOf countOf marking freeing
+unfolding outcomeOf answersTo answerTo leftBy reset free tryAllocate freePages handedBy allocateEach freeOn freeEach inRange stateCheck pageCheck countCheck
+    upFrom roundFrom firstFree bitsOf marksOf countOf marking freeing
 several-rows-hold = refl

@@ -118,15 +118,18 @@ take-hexOf (suc k) (b ∷ bytes) =
     let e : 2 * suc k ≡ suc (suc (2 * k)) = omega arith in rw (e, take-hexOf k bytes)
 
 -- a byte more
-pub encode-turn : (bytes out : List ℕ) (i : ℕ) → i < length bytes → 2 * i + 1 < length out → set (set (over (take (2 * i) (hexOf bytes)) out) (2 * i) (digitOf (getD bytes i 0 / 16))) (2 * i + 1) (digitOf (getD bytes i 0 % 16)) ≡ over (take (2 * (i + 1)) (hexOf bytes)) out
+pub encode-turn : (bytes out : List ℕ) (i : ℕ) → i < length bytes → 2 * i + 1 < length out
+    → set (set (over (take (2 * i) (hexOf bytes)) out) (2 * i) (digitOf (getD bytes i 0 / 16))) (2 * i + 1) (digitOf (getD bytes i 0 % 16)) ≡ over (take (2 * (i + 1)) (hexOf bytes)) out
 encode-turn bytes out i h k =
     let n : length (hexOf bytes) ≡ 2 * length bytes = length-hexOf bytes in
     let e : 2 * (i + 1) ≡ 2 * i + 1 + 1 = omega arith in
     rw (← hexOf-high bytes i h, ← hexOf-low bytes i h, e)
-    (ap (λ (l : List ℕ). set l (2 * i + 1) (getD (hexOf bytes) (2 * i + 1) 0)) (put-turn (hexOf bytes) out (2 * i) (omega arith) (omega arith)) ∙ put-turn (hexOf bytes) out (2 * i + 1) (omega arith) (omega arith))
+    (ap (λ (l : List ℕ). set l (2 * i + 1) (getD (hexOf bytes) (2 * i + 1) 0)) (put-turn (hexOf bytes) out (2 * i) (omega arith) (omega arith))
+    ∙ put-turn (hexOf bytes) out (2 * i + 1) (omega arith) (omega arith))
 
 -- all that there is room for
 pub encode-end : (bytes out : List ℕ) (i : ℕ) → i ≡ min (length bytes) (length out / 2) → over (take (2 * i) (hexOf bytes)) out ≡ over (hexOf (take (length out / 2) bytes)) out
 encode-end bytes out i e =
     ap (λ (l : List ℕ). over l out)
-    (take-hexOf i bytes ∙ ap hexOf (⊎-elim (λ h. take-all i bytes (omega arith) ∙ sym (take-all (length out / 2) bytes h)) (λ h. let q : i ≡ length out / 2 = omega arith in ap (λ (n : ℕ). take n bytes) q) (le-or-lt (length bytes) (length out / 2))))
+    (take-hexOf i bytes ∙ ap hexOf (⊎-elim (λ h. take-all i bytes (omega arith) ∙ sym (take-all (length out / 2) bytes h))
+    (λ h. let q : i ≡ length out / 2 = omega arith in ap (λ (n : ℕ). take n bytes) q) (le-or-lt (length bytes) (length out / 2))))

@@ -50,7 +50,8 @@ module _ (base most : ℕ) where
 
   module _ (word : List ℕ) (i n : ℕ) where
     -- past a digit d whose number r is: it goes on with r
-    pub read-turn : i < length word → (d : ℕ) (r m : Number) → d ≡ digitIn (getD word i 0) → r ≡ joined base most n d → r ≡ m → readOn base most m (drop (i + 1) word) ≡ readOn base most (Value n) (drop i word)
+    pub read-turn : i < length word → (d : ℕ) (r m : Number) → d ≡ digitIn (getD word i 0) → r ≡ joined base most n d → r ≡ m → readOn base most m (drop (i + 1) word)
+        ≡ readOn base most (Value n) (drop i word)
     unfolding readOn
     read-turn h d r m e f g =
         let k : m ≡ joined base most n (digitIn (getD word i 0)) = sym g ∙ f ∙ ap (joined base most n) e in
@@ -72,7 +73,8 @@ module _ (base most : ℕ) where
   -- ---- a number that is read stays within the most
 
   module _ (m : ℕ) where
-    within : (word : List ℕ) (t : Bool) (k : ℕ) → (t ≡ true → k ≤ most) → (k ≤ most → readOn base most (Value k) word ≡ Value m → m ≤ most) → readOn base most (cond t (Value k) NoNumber) word ≡ Value m → m ≤ most
+    within : (word : List ℕ) (t : Bool) (k : ℕ) → (t ≡ true → k ≤ most) → (k ≤ most → readOn base most (Value k) word ≡ Value m → m ≤ most)
+        → readOn base most (cond t (Value k) NoNumber) word ≡ Value m → m ≤ most
     within word true k f rest e = rest (f refl) e
     within word false k f rest e =
         let x : NoNumber ≡ Value m = sym (read-none word) ∙ e in let z : _≡_ {A = ℕ} 0 1 = cc in absurd (omega arith)

@@ -65,7 +65,8 @@ module _ (flash out : List ℕ) (r : Reading) (from : ℕ) (at : from ≡ putAt 
   pub put-within : (p : Passage) (n : ℕ) → p ≡ read (r .reader) flash (length (take (length out - from) (drop from out)))
       → p .answer ≡ count.Bytes n → from + n ≤ length out
   put-within p n e known =
-      let m : n ≤ length (take (length out - from) (drop from out)) = read-most (r .reader) flash (length (take (length out - from) (drop from out))) n (sym (ap (λ (q : Passage). q .answer) e) ∙ known) in
+      let m : n ≤ length (take (length out - from) (drop from out)) =
+      read-most (r .reader) flash (length (take (length out - from) (drop from out))) n (sym (ap (λ (q : Passage). q .answer) e) ∙ known) in
       let m′ : n ≤ length (drop from out) = rw whole at m in
       omega (arith, length-drop from out)
 

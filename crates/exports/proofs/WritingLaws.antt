@@ -27,7 +27,8 @@ use Rattle.writer.specs.declared.answers.Taking.the-variants as taking
 use Rattle.writer.specs.declared.answers.Wrote.{Wrote}
 use Rattle.writer.specs.declared.page_writer.PageWriter.{PageWriter}
 use Rattle.exports.specs.Telling.{told}
-use Rattle.exports.specs.Writings.{WriteState, stateOf, afterHeader, begunAt, begunBy, begun, Fits, afterTaking, afterWrite, writeBytes, writeFrom, writeOne, writeOn, writeAll, commitOf, finished, finishedFlash, writePage}
+use Rattle.exports.specs.Writings.{WriteState, stateOf, afterHeader, begunAt, begunBy, begun, Fits}
+use Rattle.exports.specs.Writings.{afterTaking, afterWrite, writeBytes, writeFrom, writeOne, writeOn, writeAll, commitOf, finished, finishedFlash, writePage}
 use Rattle.exports.specs.declared.writing.Writing.{Writing}
 
 -- ---- the start

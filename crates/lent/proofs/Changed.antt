@@ -54,7 +54,8 @@ abbrev pub tyOf : Changed → Ty
 tyOf S = pairTy (S .name) (S .answers .ty)
 
 -- a declared struct of those two fields is one
-abbrev pairing : (D : Declared) (L : LL.Laws D) (N : Plain) (answer : D .D → N .row .Denot) (allocator : D .D → Allocator) → ((x : D .D) → LL.val D L x ≡ both (N .low (answer x)) (allocator x)) → lone (row D .mir) ≡ pairTy (D .name) (N .ty)
+abbrev pairing : (D : Declared) (L : LL.Laws D) (N : Plain) (answer : D .D → N .row .Denot) (allocator : D .D → Allocator)
+    → ((x : D .D) → LL.val D L x ≡ both (N .low (answer x)) (allocator x)) → lone (row D .mir) ≡ pairTy (D .name) (N .ty)
     → ((x : D .D) → AreAll (fields D) (D .to x) (valss (fields D) (LL.spells (D .parts) L) (D .to x)) → Is (N .row) (answer x) (N .low (answer x) ∷ []) × IsAt (allocator x)) → Changed
 pairing D L N answer allocator low-is ty-is known = record {
   row = row D;

@@ -39,7 +39,11 @@ use Rattle.lent.proofs.LentSteps.{promised}
 
 module _ (Ps : List Plain) (S : Changed) (f : Allocator → Values 0 tt Ps → S .row .Denot) where
   abbrev lends : Ended
-  lends = record { signature = record { lifetimes = 1; outlives = []; params = mutRefTo (0 ∷ []) tt (plain (λ _. T.the-row)) ∷ slots 1 Ps; result = plain (λ _. S .answers .row) }; kept = (yes, kept 1 Ps) }
+  lends = record {
+    signature = record { lifetimes = 1; outlives = []; params = mutRefTo (0 ∷ []) tt (plain (λ _. T.the-row)) ∷ slots 1 Ps; result = plain (λ _. S .answers .row) };
+    kept =
+        (yes, kept 1 Ps);
+  }
 
   abbrev stayed : Stays (lends .signature .params) (lends .kept)
   stayed = (stay-ref (0 ∷ []) tt (plain (λ _. T.the-row)), stays 1 Ps)
@@ -49,8 +53,10 @@ module _ (Ps : List Plain) (S : Changed) (f : Allocator → Values 0 tt Ps → S
   made κs args = f (now (args .0)) (carry 1 0 κs tt Ps (args .1))
 
   -- the clauses hold of what the by-value call makes
-  module _ {M : Type 1} (𝓤 : URA M) (c : Clauses 𝓤 lends) (holds : (κs : Lfts 1) (args : Args (lends .signature) κs) (g : c κs args .ghost) → ent 𝓤 (emp 𝓤) (c κs args .ensures g (S .answer (made κs args)) (atExit lends κs args (S .allocator (made κs args), lasts 1 κs Ps (args .1))))) where
-    module _ (H : Heap 𝓤) (A : Atoms 𝓤) (W : Given 𝓤 H A) (κ : Lft) (q : Share) (b o : ℕ) (γ : GName) (h : Allocator) (a : Values 1 (κ, tt) Ps) (are : Fine 1 (κ, tt) Ps a) (g : c (κ, tt) (record { ptr = (b, o); name = γ; now = h }, a) .ghost) where
+  module _ {M : Type 1} (𝓤 : URA M) (c : Clauses 𝓤 lends) (holds : (κs : Lfts 1) (args : Args (lends .signature) κs) (g : c κs args .ghost)
+      → ent 𝓤 (emp 𝓤) (c κs args .ensures g (S .answer (made κs args)) (atExit lends κs args (S .allocator (made κs args), lasts 1 κs Ps (args .1))))) where
+    module _ (H : Heap 𝓤) (A : Atoms 𝓤) (W : Given 𝓤 H A) (κ : Lft) (q : Share) (b o : ℕ) (γ : GName) (h : Allocator) (a : Values 1 (κ, tt) Ps) (are : Fine 1 (κ, tt) Ps a)
+        (g : c (κ, tt) (record { ptr = (b, o); name = γ; now = h }, a) .ghost) where
       abbrev y : walkOf 𝓤 H A lends stayed c .Ghost
       y = (((κ, tt), (q, tt), tt, (record { ptr = (b, o); name = γ; now = h }, a), (vptr b o ∷ [], lows 1 (κ, tt) Ps a)), g)
 
@@ -68,7 +74,8 @@ module _ (Ps : List Plain) (S : Changed) (f : Allocator → Values 0 tt Ps → S
           feqI ! (List Val) (vptr b o ∷ []) (vptr b o ∷ []) refl $ fjoin3 ! $ use0 W (‵ (Had 1 (κ, tt) Ps a)) (had 1 (κ, tt) 𝓤 H A W Ps a are) $ move ! (1 ∷ 0 ∷ []) $ fjoin ! $
           owned ! (S .answers .row) (Is (S .answers .row)) (S .answers .makes 𝓤 H A W) (S .answer x) _ (S .fields x is .0) $ move ! (1 ∷ 0 ∷ []) $ done !
 
-    pub changes : (H : Heap 𝓤) (𝓜 : Model 𝓤 H) (𝓖 : GhostRules 𝓤 H) (𝓡 : Running 𝓤 H 𝓜) (γ : Env) (k key : Name) (r : Routine) → Walk Ps S → Closed 𝓤 H (tables 𝓤 H 𝓜 𝓡 γ .C) (tables 𝓤 H 𝓜 𝓡 γ .Λ) k (changing key Ps S)
+    pub changes : (H : Heap 𝓤) (𝓜 : Model 𝓤 H) (𝓖 : GhostRules 𝓤 H) (𝓡 : Running 𝓤 H 𝓜) (γ : Env) (k key : Name) (r : Routine) → Walk Ps S
+        → Closed 𝓤 H (tables 𝓤 H 𝓜 𝓡 γ .C) (tables 𝓤 H 𝓜 𝓡 γ .Λ) k (changing key Ps S)
         → γ key ≡ r → Triple 𝓤 (𝓡 .run r) (ByValue Ps (S .row) f 𝓤 H (𝓖 .A)) → Meets 𝓤 H (𝓖 .A) (lends .signature) (𝓡 .run (γ k)) (closing 𝓤 H (𝓖 .A) lends c)
     changes H 𝓜 𝓖 𝓡 γ k key r walk closed means met =
         one-call 𝓤 H 𝓜 𝓖 𝓡 γ lends stayed (goes-ref 𝓤 H (𝓖 .A) (givenOf 𝓤 H 𝓜 𝓖) 1 0 tt (plain (λ _. T.the-row)), all-go 1 𝓤 H (𝓖 .A) (givenOf 𝓤 H 𝓜 𝓖) Ps) c k (changing key Ps S) closed

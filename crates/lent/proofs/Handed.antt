@@ -148,7 +148,8 @@ module _ (n : ℕ) where
     fits [] a ws = tt
     fits (P ∷ Ps) a ws = (tt, fits Ps (a .1) (ws .1))
 
-    had-is-owned : (Ps : List Plain) (a : Values Ps) (ws : Fins κs (slots Ps) (kept Ps) a) (vss : Valss (typesAt (slots Ps) κs)) → owns (typesAt (slots Ps) κs) a vss ≡ hasOf κs (slots Ps) (kept Ps) (stays Ps) a ws vss
+    had-is-owned : (Ps : List Plain) (a : Values Ps) (ws : Fins κs (slots Ps) (kept Ps) a) (vss : Valss (typesAt (slots Ps) κs)) → owns (typesAt (slots Ps) κs) a vss
+        ≡ hasOf κs (slots Ps) (kept Ps) (stays Ps) a ws vss
     had-is-owned [] a ws vss = refl
     had-is-owned (P ∷ Ps) a ws vss = λ i. fsep (P .row .own (a .0) (vss .0)) (had-is-owned Ps (a .1) (ws .1) (vss .1) i)
 

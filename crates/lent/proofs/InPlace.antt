@@ -70,8 +70,10 @@ walk-alone S key M 𝓤 H A W κ q b o γ h C Λ fm x a are known Post exits =
     answered ! (S .row) (lowOf S) (S .tells) (‵ ftrue) (known .ensured) x (known .said) v (known .gives v) (λ is′.
     -- [what the result owns; true; the cell; the open borrow; obs; auth; true; true; _3; …; _2; …; _1; …; room for _0; …]
     land ! (from ! (stop !)) (init ! 10 refl (S .typed 𝓤 H A W x is′)) $
-    assigns ! (of-opd ! (load ! (from ! (fld ! refl (stop !))) (look-in ! 10 (sub ! 1 refl (whole !))))) (from ! (hop ! (look ! 12 refl) (stop !))) (store-raw ! 2 refl (typed 𝓤 H A W (S .allocator x) (S .fields x is′ .1))) $
-    assigns ! (of-opd ! (load ! (from ! (fld ! refl (stop !))) (look-in ! 10 (sub ! 0 refl (whole !))))) (from ! (stop !)) (init ! 14 refl (S .answers .typed 𝓤 H A W (S .answer x) (S .fields x is′ .0))) $
+    assigns ! (of-opd ! (load ! (from ! (fld ! refl (stop !))) (look-in ! 10 (sub ! 1 refl (whole !))))) (from ! (hop ! (look ! 12 refl) (stop !)))
+    (store-raw ! 2 refl (typed 𝓤 H A W (S .allocator x) (S .fields x is′ .1))) $
+    assigns ! (of-opd ! (load ! (from ! (fld ! refl (stop !))) (look-in ! 10 (sub ! 0 refl (whole !))))) (from ! (stop !))
+    (init ! 14 refl (S .answers .typed 𝓤 H A W (S .answer x) (S .fields x is′ .0))) $
     drop ! $ drop ! $ closed ! tt (S .allocator x) (S .fields x is′ .1) b o $
     -- [obs; the borrow; the token; true; true; _3; …; _2; …; _1; …; _0; …]
     returns ! (look ! 11 refl) $ forget ! 5 refl $ forget ! 7 refl $ forget ! 9 refl $ forget ! 11 refl $
@@ -80,35 +82,48 @@ walk-alone S key M 𝓤 H A W κ q b o γ h C Λ fm x a are known Post exits =
 pub walk-with-one : (P : Plain) (S : Changed) → Walk (P ∷ []) S
 walk-with-one P S key M 𝓤 H A W κ q b o γ h C Λ fm x a are known Post exits =
     qed W ((‵ (flft κ q) ⊛ ‵ ftrue) ∷ ‵ (fsep (Lent κ b o γ h) (Owned 1 (κ, tt) (P ∷ []) a)) ∷ []) ∵ enter ! C Λ (changing key (P ∷ []) S) (vptr b o ∷ P .low (a .0) ∷ []) _ $
-    alloc1 ! (λ l₀. alloc1 ! (λ l₁. alloc1 ! (λ l₂. alloc1 ! (λ l₃. alloc1 ! (λ l₄. alloc0 ! $ params1 ! $ pass1 ! (init ! 6 refl (tt, tt)) $ pass1 ! (init ! 4 refl (P .typed 𝓤 H A W (a .0) (are .0))) $ pass0 ! $
+    alloc1 ! (λ l₀. alloc1 ! (λ l₁. alloc1 ! (λ l₂. alloc1 !
+    (λ l₃. alloc1 ! (λ l₄. alloc0 ! $ params1 ! $ pass1 ! (init ! 6 refl (tt, tt)) $ pass1 ! (init ! 4 refl (P .typed 𝓤 H A W (a .0) (are .0))) $ pass0 ! $
     move ! (11 ∷ []) $ fsplit ! $ fsplit3 ! $ drop ! $ move ! (13 ∷ []) $ split ! $ move ! (2 ∷ 3 ∷ 0 ∷ []) $ opened ! tt h b o (λ is.
     -- [what the Allocator owns; its cell; the open borrow; obs; auth; true; the rest; _4; …; _3; …; _2; …; _1; …; room for _0; …]
     assigns ! (of-opd ! (load ! (from ! (hop ! (look ! 13 refl) (stop !))) (look-raw ! 1 refl))) (from ! (stop !)) (init ! 7 refl (typed 𝓤 H A W h is)) $
-    calls-from ! fm (‵ (T.the-row .own h (mach h ∷ []))) (mach h ∷ P .low (a .0) ∷ []) (known .post) (known .met) (and-then ! (load ! (from ! (stop !)) (look ! 7 refl)) (and-then ! (load ! (from ! (stop !)) (look ! 11 refl)) (no-more !))) (λ v.
+    calls-from ! fm (‵ (T.the-row .own h (mach h ∷ []))) (mach h ∷ P .low (a .0) ∷ []) (known .post) (known .met)
+    (and-then ! (load ! (from ! (stop !)) (look ! 7 refl)) (and-then ! (load ! (from ! (stop !)) (look ! 11 refl)) (no-more !))) (λ v.
     answered ! (S .row) (lowOf S) (S .tells) (‵ ftrue) (known .ensured) x (known .said) v (known .gives v) (λ is′.
     -- [what the result owns; true; the cell; the open borrow; obs; auth; true; the rest; _4; …; _3; …; _2; …; _1; …; room for _0; …]
     land ! (from ! (stop !)) (init ! 10 refl (S .typed 𝓤 H A W x is′)) $
-    assigns ! (of-opd ! (load ! (from ! (fld ! refl (stop !))) (look-in ! 10 (sub ! 1 refl (whole !))))) (from ! (hop ! (look ! 14 refl) (stop !))) (store-raw ! 2 refl (typed 𝓤 H A W (S .allocator x) (S .fields x is′ .1))) $
-    assigns ! (of-opd ! (load ! (from ! (fld ! refl (stop !))) (look-in ! 10 (sub ! 0 refl (whole !))))) (from ! (stop !)) (init ! 16 refl (S .answers .typed 𝓤 H A W (S .answer x) (S .fields x is′ .0))) $
+    assigns ! (of-opd ! (load ! (from ! (fld ! refl (stop !))) (look-in ! 10 (sub ! 1 refl (whole !))))) (from ! (hop ! (look ! 14 refl) (stop !)))
+    (store-raw ! 2 refl (typed 𝓤 H A W (S .allocator x) (S .fields x is′ .1))) $
+    assigns ! (of-opd ! (load ! (from ! (fld ! refl (stop !))) (look-in ! 10 (sub ! 0 refl (whole !))))) (from ! (stop !))
+    (init ! 16 refl (S .answers .typed 𝓤 H A W (S .answer x) (S .fields x is′ .0))) $
     drop ! $ drop ! $ closed ! tt (S .allocator x) (S .fields x is′ .1) b o $
     -- [obs; the borrow; the token; true; the rest; _4; …; _3; …; _2; …; _1; …; _0; …]
     returns ! (look ! 13 refl) $ forget ! 5 refl $ forget ! 7 refl $ forget ! 9 refl $ forget ! 11 refl $ forget ! 13 refl $
-    move ! (13 ∷ 14 ∷ []) $ free1 ! $ move ! (11 ∷ 12 ∷ []) $ free1 ! $ move ! (9 ∷ 10 ∷ []) $ free1 ! $ move ! (7 ∷ 8 ∷ []) $ free1 ! $ move ! (5 ∷ 6 ∷ []) $ free1 ! $ free0 ! $ keep ! (0 ∷ 1 ∷ 2 ∷ []) $ by ! (exits is′)))))))))
+    move ! (13 ∷ 14 ∷ []) $ free1 ! $ move ! (11 ∷ 12 ∷ []) $ free1 ! $ move ! (9 ∷ 10 ∷ []) $ free1 ! $ move ! (7 ∷ 8 ∷ []) $ free1 ! $ move ! (5 ∷ 6 ∷ []) $ free1 ! $ free0 ! $
+    keep ! (0 ∷ 1 ∷ 2 ∷ []) $ by ! (exits is′)))))))))
 
 pub walk-with-two : (P P′ : Plain) (S : Changed) → Walk (P ∷ P′ ∷ []) S
 walk-with-two P P′ S key M 𝓤 H A W κ q b o γ h C Λ fm x a are known Post exits =
-    qed W ((‵ (flft κ q) ⊛ ‵ ftrue) ∷ ‵ (fsep (Lent κ b o γ h) (Owned 1 (κ, tt) (P ∷ P′ ∷ []) a)) ∷ []) ∵ enter ! C Λ (changing key (P ∷ P′ ∷ []) S) (vptr b o ∷ P .low (a .0) ∷ P′ .low (a .1 .0) ∷ []) _ $
-    alloc1 ! (λ l₀. alloc1 ! (λ l₁. alloc1 ! (λ l₂. alloc1 ! (λ l₃. alloc1 ! (λ l₄. alloc1 ! (λ l₅. alloc0 ! $ params1 ! $ pass1 ! (init ! 8 refl (tt, tt)) $ pass1 ! (init ! 6 refl (P .typed 𝓤 H A W (a .0) (are .0))) $ pass1 ! (init ! 4 refl (P′ .typed 𝓤 H A W (a .1 .0) (are .1 .0))) $ pass0 ! $
+    qed W ((‵ (flft κ q) ⊛ ‵ ftrue) ∷ ‵ (fsep (Lent κ b o γ h) (Owned 1 (κ, tt) (P ∷ P′ ∷ []) a)) ∷ []) ∵ enter ! C Λ (changing key (P ∷ P′ ∷ []) S)
+    (vptr b o ∷ P .low (a .0) ∷ P′ .low (a .1 .0) ∷ []) _ $
+    alloc1 ! (λ l₀. alloc1 ! (λ l₁. alloc1 ! (λ l₂. alloc1 !
+    (λ l₃. alloc1 ! (λ l₄. alloc1 !
+    (λ l₅. alloc0 ! $ params1 ! $ pass1 ! (init ! 8 refl (tt, tt)) $ pass1 ! (init ! 6 refl (P .typed 𝓤 H A W (a .0) (are .0))) $
+    pass1 ! (init ! 4 refl (P′ .typed 𝓤 H A W (a .1 .0) (are .1 .0))) $ pass0 ! $
     move ! (13 ∷ []) $ fsplit ! $ fsplit3 ! $ drop ! $ move ! (15 ∷ []) $ split ! $ move ! (2 ∷ 3 ∷ 0 ∷ []) $ opened ! tt h b o (λ is.
     -- [what the Allocator owns; its cell; the open borrow; obs; auth; true; the rest; _5; …; _4; …; _3; …; _2; …; _1; …; room for _0; …]
     assigns ! (of-opd ! (load ! (from ! (hop ! (look ! 15 refl) (stop !))) (look-raw ! 1 refl))) (from ! (stop !)) (init ! 7 refl (typed 𝓤 H A W h is)) $
-    calls-from ! fm (‵ (T.the-row .own h (mach h ∷ []))) (mach h ∷ P .low (a .0) ∷ P′ .low (a .1 .0) ∷ []) (known .post) (known .met) (and-then ! (load ! (from ! (stop !)) (look ! 7 refl)) (and-then ! (load ! (from ! (stop !)) (look ! 13 refl)) (and-then ! (load ! (from ! (stop !)) (look ! 11 refl)) (no-more !)))) (λ v.
+    calls-from ! fm (‵ (T.the-row .own h (mach h ∷ []))) (mach h ∷ P .low (a .0) ∷ P′ .low (a .1 .0) ∷ []) (known .post) (known .met)
+    (and-then ! (load ! (from ! (stop !)) (look ! 7 refl)) (and-then ! (load ! (from ! (stop !)) (look ! 13 refl)) (and-then ! (load ! (from ! (stop !)) (look ! 11 refl)) (no-more !)))) (λ v.
     answered ! (S .row) (lowOf S) (S .tells) (‵ ftrue) (known .ensured) x (known .said) v (known .gives v) (λ is′.
     -- [what the result owns; true; the cell; the open borrow; obs; auth; true; the rest; _5; …; _4; …; _3; …; _2; …; _1; …; room for _0; …]
     land ! (from ! (stop !)) (init ! 10 refl (S .typed 𝓤 H A W x is′)) $
-    assigns ! (of-opd ! (load ! (from ! (fld ! refl (stop !))) (look-in ! 10 (sub ! 1 refl (whole !))))) (from ! (hop ! (look ! 16 refl) (stop !))) (store-raw ! 2 refl (typed 𝓤 H A W (S .allocator x) (S .fields x is′ .1))) $
-    assigns ! (of-opd ! (load ! (from ! (fld ! refl (stop !))) (look-in ! 10 (sub ! 0 refl (whole !))))) (from ! (stop !)) (init ! 18 refl (S .answers .typed 𝓤 H A W (S .answer x) (S .fields x is′ .0))) $
+    assigns ! (of-opd ! (load ! (from ! (fld ! refl (stop !))) (look-in ! 10 (sub ! 1 refl (whole !))))) (from ! (hop ! (look ! 16 refl) (stop !)))
+    (store-raw ! 2 refl (typed 𝓤 H A W (S .allocator x) (S .fields x is′ .1))) $
+    assigns ! (of-opd ! (load ! (from ! (fld ! refl (stop !))) (look-in ! 10 (sub ! 0 refl (whole !))))) (from ! (stop !))
+    (init ! 18 refl (S .answers .typed 𝓤 H A W (S .answer x) (S .fields x is′ .0))) $
     drop ! $ drop ! $ closed ! tt (S .allocator x) (S .fields x is′ .1) b o $
     -- [obs; the borrow; the token; true; the rest; _5; …; _4; …; _3; …; _2; …; _1; …; _0; …]
     returns ! (look ! 15 refl) $ forget ! 5 refl $ forget ! 7 refl $ forget ! 9 refl $ forget ! 11 refl $ forget ! 13 refl $ forget ! 15 refl $
-    move ! (15 ∷ 16 ∷ []) $ free1 ! $ move ! (13 ∷ 14 ∷ []) $ free1 ! $ move ! (11 ∷ 12 ∷ []) $ free1 ! $ move ! (9 ∷ 10 ∷ []) $ free1 ! $ move ! (7 ∷ 8 ∷ []) $ free1 ! $ move ! (5 ∷ 6 ∷ []) $ free1 ! $ free0 ! $ keep ! (0 ∷ 1 ∷ 2 ∷ []) $ by ! (exits is′))))))))))
+    move ! (15 ∷ 16 ∷ []) $ free1 ! $ move ! (13 ∷ 14 ∷ []) $ free1 ! $ move ! (11 ∷ 12 ∷ []) $ free1 ! $ move ! (9 ∷ 10 ∷ []) $ free1 ! $ move ! (7 ∷ 8 ∷ []) $ free1 ! $
+    move ! (5 ∷ 6 ∷ []) $ free1 ! $ free0 ! $ keep ! (0 ∷ 1 ∷ 2 ∷ []) $ by ! (exits is′))))))))))

@@ -77,7 +77,8 @@ module _ {M : Type 1} {𝓤 : URA M} {H : Heap 𝓤} {A : Atoms 𝓤} {K : Type 
   over : K → Soaks G → {ν : ℕ} {γ : GName} (l : ℕ) → ((d : RunReader) → Seq K W (‵ (mem (B κ) .lies d l 0) ∷ ‵ (fauth γ (B κ .coded .code d)) ∷ (‵ (flft κ q) ⊛ ‵ ftrue) ∷ Γ) G)
       → Seq K W (Tokens 𝓤 A κ q ν ∷ Kept 𝓤 A κ q ν l γ ∷ Γ) G
   over t z {ν} {γ} l k =
-      split t $ use1 W (‵ (flft (ν ∷ []) (PosShare·left q)) ⊛ ‵ (flft κ (PosShare·left q))) (W .lfts .lft-unmeet (ν ∷ []) κ (PosShare·left q)) $ split t $ move t (2 ∷ []) $ split t $ move t (4 ∷ []) $ split t $
+      split t $ use1 W (‵ (flft (ν ∷ []) (PosShare·left q)) ⊛ ‵ (flft κ (PosShare·left q))) (W .lfts .lft-unmeet (ν ∷ []) κ (PosShare·left q)) $ split t $ move t (2 ∷ []) $ split t $
+      move t (4 ∷ []) $ split t $
       -- [the way back; the lender's part; the right half; true; ν's share; the left half; …]
       move t (4 ∷ 0 ∷ []) $ use2 W (‵ (flft (ν ∷ []) fullShare)) (apply∗ 𝓤 (A .lft (ν ∷ []) (PosShare·left q)) (A .lft (ν ∷ []) fullShare)) $ lft-end t z $
       use1 W (‵ (fdead (ν ∷ κ))) (W .lfts .dead-incl (ν ∷ κ) (ν ∷ []) (meet-⊑-left (ν ∷ []) κ)) $ lent-back t z $ fpick t (λ d. fsplit t $
@@ -89,7 +90,8 @@ module _ {M : Type 1} {𝓤 : URA M} {H : Heap 𝓤} {A : Atoms 𝓤} {K : Type 
   unfolding partOf
   out-of t d l k =
       fpick t (λ vs. fsplit t $ spelt t (B κ) (Is (B κ)) (shows 𝓤 H A (B κ)) (LL.vals (T.the-type (α κ)) (T′.the-laws (α κ))) (LL.tells (T.the-type (α κ)) (T′.the-laws (α κ))) fullShare d vs l 0 $
-      use1 W (‵ (Cell l d)) (W .laws .raw-at fullShare (T′.mir erased) l 0 (mach d)) $ move t (1 ∷ []) $ peeks t (B κ) (Is (B κ)) (shows 𝓤 H A (B κ)) d (mach d ∷ []) (λ is. move t (1 ∷ 0 ∷ []) $ k is))
+      use1 W (‵ (Cell l d)) (W .laws .raw-at fullShare (T′.mir erased) l 0 (mach d)) $ move t (1 ∷ []) $
+      peeks t (B κ) (Is (B κ)) (shows 𝓤 H A (B κ)) d (mach d ∷ []) (λ is. move t (1 ∷ 0 ∷ []) $ k is))
 
 module _ {M : Type 1} {𝓤 : URA M} {H : Heap 𝓤} {A : Atoms 𝓤} {K : Type 0} {W : Given 𝓤 H A} {Γ : List (Item 𝓤)} {G : Goal 𝓤 H} (κ : Lft) (q : Share) where
   pub comes-back : K → Soaks G → {ν : ℕ} {γ : GName} (l : ℕ)

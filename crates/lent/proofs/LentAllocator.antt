@@ -34,7 +34,8 @@ typed 𝓤 H A W h is = LL.lawful T.the-type T′.the-laws 𝓤 H A W .typed h _
 
 module _ {M : Type 1} {𝓤 : URA M} {H : Heap 𝓤} {A : Atoms 𝓤} {K : Type 0} {W : Given 𝓤 H A} {Γ : List (Item 𝓤)} {G : Goal 𝓤 H} {κ : Lft} {q : Share} where
   pub opened : K → Soaks G → (h : Allocator) {γ : GName} (b o : ℕ)
-      → (IsAt h → Seq K W (‵ (T.the-row .own h (mach h ∷ [])) ∷ ‵ (cellAt fullShare (T.the-row .mir) (mach h ∷ []) b o) ∷ ‵ (fobor κ q (Body (mem T.the-row) b o γ)) ∷ ‵ (fobs γ (T.the-row .coded .code h)) ∷ ‵ (fauth γ (T.the-row .coded .code h)) ∷ Γ) G)
+      → (IsAt h → Seq K W (‵ (T.the-row .own h (mach h ∷ [])) ∷ ‵ (cellAt fullShare (T.the-row .mir) (mach h ∷ []) b o) ∷ ‵ (fobor κ q (Body (mem T.the-row) b o γ))
+      ∷ ‵ (fobs γ (T.the-row .coded .code h)) ∷ ‵ (fauth γ (T.the-row .coded .code h)) ∷ Γ) G)
       → Seq K W (‵ (fobs γ (T.the-row .coded .code h)) ∷ ‵ (fbor κ (Body (mem T.the-row) b o γ)) ∷ ‵ (flft κ q) ∷ Γ) G
   opened t z h b o k =
       opens t z T.the-row {h = h} b o (λ vs. spelt t T.the-row (Is T.the-row) (shows 𝓤 H A T.the-row) (LL.vals T.the-type T′.the-laws) (LL.tells T.the-type T′.the-laws) fullShare h vs b o $
@@ -46,7 +47,8 @@ module _ {M : Type 1} {𝓤 : URA M} {H : Heap 𝓤} {A : Atoms 𝓤} {K : Type 
   closed t z h is b o = step (λ s. owned t T.the-row (Is T.the-row) (LL.makes T.the-type T′.the-plain 𝓤 H A) h _ is $ move t (1 ∷ 0 ∷ []) $ closes t z T.the-row h (mach h ∷ []) b o $ s)
 
   pub looked : K → Soaks G → (h : Allocator) (b o : ℕ)
-      → ((q′ : Share) → IsAt h → Seq K W (‵ (T.the-row .own h (mach h ∷ [])) ∷ ‵ (cellAt q′ (T.the-row .mir) (mach h ∷ []) b o) ∷ ‵ (fobor κ q (partAt T.the-row q′ h b o)) ∷ ‵ (fshr-bor κ (λ s. partAt T.the-row s h b o)) ∷ Γ) G)
+      → ((q′ : Share) → IsAt h → Seq K W (‵ (T.the-row .own h (mach h ∷ [])) ∷ ‵ (cellAt q′ (T.the-row .mir) (mach h ∷ []) b o) ∷ ‵ (fobor κ q (partAt T.the-row q′ h b o))
+      ∷ ‵ (fshr-bor κ (λ s. partAt T.the-row s h b o)) ∷ Γ) G)
       → Seq K W (‵ (fshr-bor κ (λ s. partAt T.the-row s h b o)) ∷ ‵ (flft κ q) ∷ Γ) G
   looked t z h b o k =
       looks t z T.the-row (Is T.the-row) (shows 𝓤 H A T.the-row) (LL.vals T.the-type T′.the-laws) (LL.tells T.the-type T′.the-laws) (LL.copy T.the-type T′.the-copy 𝓤 H A W) h b o (λ q′ vs.

@@ -36,7 +36,8 @@ module _ {M : Type 1} {𝓤 : URA M} {H : Heap 𝓤} {A : Atoms 𝓤} {K : Type 
 
   pub answered-and : K → (R : RattleType) (low : R .Denot → Val) → Tells R (Is R) (λ r. low r ∷ []) → (alive more : Item 𝓤) (ensured : R .Denot → SProp 𝓤) (x : R .Denot)
       → ((r : R .Denot) → ent 𝓤 (ensured r) (mean 𝓤 H A (raw (fact 𝓤 (r ≡ x)) ⊛ more)))
-      → {C : Calls 𝓤 H} {Λ : Loops 𝓤 H} {E : Env 𝓤 H} {d : Place} {rest : Body} {q : Post 𝓤 H} (v : Val) {post : SProp 𝓤} → ent 𝓤 post (mean 𝓤 H A (later (some (λ (r : R .Denot). (alive ⊛ ‵ (R .own r (v ∷ []))) ⊛ raw (ensured r)))))
+      → {C : Calls 𝓤 H} {Λ : Loops 𝓤 H} {E : Env 𝓤 H} {d : Place} {rest : Body} {q : Post 𝓤 H} (v : Val) {post : SProp 𝓤}
+      → ent 𝓤 post (mean 𝓤 H A (later (some (λ (r : R .Denot). (alive ⊛ ‵ (R .own r (v ∷ []))) ⊛ raw (ensured r)))))
       → (Is R x (low x ∷ []) → Seq K W (‵ (R .own x (low x ∷ [])) ∷ alive ∷ more ∷ Γ) (lands C Λ E d (low x) rest q)) → Seq K W (raw post ∷ Γ) (lands C Λ E d v rest q)
   answered-and t R low tl alive more ensured x said {C} {Λ} {E} {d} {rest} {q} v is k =
       use1 W (later (some (λ (r : R .Denot). (alive ⊛ ‵ (R .own r (v ∷ []))) ⊛ raw (ensured r)))) is $ await t tt $ pick t (λ r.
@@ -45,15 +46,19 @@ module _ {M : Type 1} {𝓤 : URA M} {H : Heap 𝓤} {A : Atoms 𝓤} {K : Type 
       rewrite t 0 (λ (us : List Val). ‵ (R .own x us)) (tl x (v ∷ []) p) refl $
       subst (λ (u : Val). Seq K W (‵ (R .own x (low x ∷ [])) ∷ alive ∷ more ∷ Γ) (lands C Λ E d u rest q)) (sym (ap only (tl x (v ∷ []) p))) (k (subst (Is R x) (tl x (v ∷ []) p) p)))))
 
-  pub answered : K → (R : RattleType) (low : R .Denot → Val) → Tells R (Is R) (λ r. low r ∷ []) → (alive : Item 𝓤) (ensured : R .Denot → SProp 𝓤) (x : R .Denot) → ((r : R .Denot) → ent 𝓤 (ensured r) (fact 𝓤 (r ≡ x)))
-      → {C : Calls 𝓤 H} {Λ : Loops 𝓤 H} {E : Env 𝓤 H} {d : Place} {rest : Body} {q : Post 𝓤 H} (v : Val) {post : SProp 𝓤} → ent 𝓤 post (mean 𝓤 H A (later (some (λ (r : R .Denot). (alive ⊛ ‵ (R .own r (v ∷ []))) ⊛ raw (ensured r)))))
+  pub answered : K → (R : RattleType) (low : R .Denot → Val) → Tells R (Is R) (λ r. low r ∷ []) → (alive : Item 𝓤) (ensured : R .Denot → SProp 𝓤) (x : R .Denot)
+      → ((r : R .Denot) → ent 𝓤 (ensured r) (fact 𝓤 (r ≡ x)))
+      → {C : Calls 𝓤 H} {Λ : Loops 𝓤 H} {E : Env 𝓤 H} {d : Place} {rest : Body} {q : Post 𝓤 H} (v : Val) {post : SProp 𝓤}
+      → ent 𝓤 post (mean 𝓤 H A (later (some (λ (r : R .Denot). (alive ⊛ ‵ (R .own r (v ∷ []))) ⊛ raw (ensured r)))))
       → (Is R x (low x ∷ []) → Seq K W (‵ (R .own x (low x ∷ [])) ∷ alive ∷ Γ) (lands C Λ E d (low x) rest q)) → Seq K W (raw post ∷ Γ) (lands C Λ E d v rest q)
   answered t R low tl alive ensured x said v is k =
-      answered-and t R low tl alive (‵ ftrue) ensured x (λ r. via 𝓤 (sep 𝓤 (emp 𝓤) (fact 𝓤 (r ≡ x))) (via 𝓤 (fact 𝓤 (r ≡ x)) (said r) (emp∗ 𝓤 (fact 𝓤 (r ≡ x)))) (comm∗ 𝓤 (emp 𝓤) (fact 𝓤 (r ≡ x)))) v is
+      answered-and t R low tl alive (‵ ftrue) ensured x (λ r. via 𝓤 (sep 𝓤 (emp 𝓤) (fact 𝓤 (r ≡ x))) (via 𝓤 (fact 𝓤 (r ≡ x)) (said r) (emp∗ 𝓤 (fact 𝓤 (r ≡ x))))
+      (comm∗ 𝓤 (emp 𝓤) (fact 𝓤 (r ≡ x)))) v is
       (λ p. move t (2 ∷ []) $ drop t $ k p)
 
   pub received : K → (R : RattleType) (low : R .Denot → Val) → Tells R (Is R) (λ r. low r ∷ []) → (alive : Item 𝓤) (ensured : R .Denot → SProp 𝓤)
-      → {C : Calls 𝓤 H} {Λ : Loops 𝓤 H} {E : Env 𝓤 H} {d : Place} {rest : Body} {q : Post 𝓤 H} (v : Val) {post : SProp 𝓤} → ent 𝓤 post (mean 𝓤 H A (later (some (λ (r : R .Denot). (alive ⊛ ‵ (R .own r (v ∷ []))) ⊛ raw (ensured r)))))
+      → {C : Calls 𝓤 H} {Λ : Loops 𝓤 H} {E : Env 𝓤 H} {d : Place} {rest : Body} {q : Post 𝓤 H} (v : Val) {post : SProp 𝓤}
+      → ent 𝓤 post (mean 𝓤 H A (later (some (λ (r : R .Denot). (alive ⊛ ‵ (R .own r (v ∷ []))) ⊛ raw (ensured r)))))
       → ((r : R .Denot) → Is R r (low r ∷ []) → Seq K W (‵ (R .own r (low r ∷ [])) ∷ alive ∷ Γ) (lands C Λ E d (low r) rest q)) → Seq K W (raw post ∷ Γ) (lands C Λ E d v rest q)
   received t R low tl alive ensured {C} {Λ} {E} {d} {rest} {q} v is k =
       use1 W (later (some (λ (r : R .Denot). (alive ⊛ ‵ (R .own r (v ∷ []))) ⊛ raw (ensured r)))) is $ await t tt $ pick t (λ r.

@@ -64,7 +64,8 @@ module _ {M : Type 1} (𝓤 : URA M) (H : Heap 𝓤) (A : Atoms 𝓤) (W : Given
       → ent 𝓤 (⋆ 𝓤 H A ((‵ (flft κ q) ⊛ ‵ ftrue) ∷ ‵ (fsep (Own 𝓤 H A W α d) (fsep (P.the-row .own found (low found ∷ [])) ftrue)) ∷ [])) (WpFn 𝓤 H C Λ (part key) (mach d ∷ low found ∷ []) Post)
   walk-part d found is-d is-found C Λ fm key x ensured said Q gives Post exits met =
       qed W ((‵ (flft κ q) ⊛ ‵ ftrue) ∷ ‵ (fsep (Own 𝓤 H A W α d) (fsep (P.the-row .own found (low found ∷ [])) ftrue)) ∷ []) ∵ enter ! C Λ (part key) (mach d ∷ low found ∷ []) _ $
-      alloc1 ! (λ l₀. alloc1 ! (λ l₁. alloc1 ! (λ l₂. alloc1 ! (λ l₃. alloc0 ! $ params1 ! $ pass1 ! (init ! 4 refl (typed 𝓤 H A W α d is-d)) $ pass1 ! (init ! 2 refl (LL.lawful P.the-type P′.the-laws 𝓤 H A W .typed found _ is-found .0)) $ pass0 ! $
+      alloc1 ! (λ l₀. alloc1 ! (λ l₁. alloc1 ! (λ l₂. alloc1 !
+      (λ l₃. alloc0 ! $ params1 ! $ pass1 ! (init ! 4 refl (typed 𝓤 H A W α d is-d)) $ pass1 ! (init ! 2 refl (LL.lawful P.the-type P′.the-laws 𝓤 H A W .typed found _ is-found .0)) $ pass0 ! $
       assigns ! (of-opd ! (load ! (from ! (fld ! refl (stop !))) (look-in ! 4 (sub ! 0 refl (whole !))))) (from ! (stop !)) (init ! 0 refl (tt, typed 𝓤 H A W α d is-d .1 .0)) $
       move ! (9 ∷ []) $ fsplit ! $ use1 W (‵ (Part κ (d .run) (sliceOf (d .run))) ⊛ ‵ (Own 𝓤 H A W α d)) (lends-run 𝓤 H A W α d) $ split ! $ move ! (0 ∷ 11 ∷ []) $ join ! $
       -- [what the run owns and the token; what the reader owns; the rest; _3; …; _2; …; _1; …; room for _0; …]

@@ -47,8 +47,10 @@ module _ (Ps : List Plain) (R : Plain) (f : Allocator → Values 0 tt Ps → R .
   made κs args = f (now (args .0)) (carry 1 0 κs tt Ps (args .1))
 
   -- the clauses hold of what the by-value call makes
-  module _ {M : Type 1} (𝓤 : URA M) (c : Clauses 𝓤 lends) (holds : (κs : Lfts 1) (args : Args (lends .signature) κs) (g : c κs args .ghost) → ent 𝓤 (emp 𝓤) (c κs args .ensures g (made κs args) (atExit lends κs args (tt, lasts 1 κs Ps (args .1))))) where
-    module _ (H : Heap 𝓤) (A : Atoms 𝓤) (W : Given 𝓤 H A) (κ : Lft) (q : Share) (b o : ℕ) (γ : GName) (h : Allocator) (a : Values 1 (κ, tt) Ps) (are : Fine 1 (κ, tt) Ps a) (g : c (κ, tt) (record { ptr = (b, o); name = γ; now = h }, a) .ghost) where
+  module _ {M : Type 1} (𝓤 : URA M) (c : Clauses 𝓤 lends) (holds : (κs : Lfts 1) (args : Args (lends .signature) κs) (g : c κs args .ghost)
+      → ent 𝓤 (emp 𝓤) (c κs args .ensures g (made κs args) (atExit lends κs args (tt, lasts 1 κs Ps (args .1))))) where
+    module _ (H : Heap 𝓤) (A : Atoms 𝓤) (W : Given 𝓤 H A) (κ : Lft) (q : Share) (b o : ℕ) (γ : GName) (h : Allocator) (a : Values 1 (κ, tt) Ps) (are : Fine 1 (κ, tt) Ps a)
+        (g : c (κ, tt) (record { ptr = (b, o); name = γ; now = h }, a) .ghost) where
       abbrev y : walkOf 𝓤 H A lends stayed c .Ghost
       y = (((κ, tt), (q, tt), tt, (record { ptr = (b, o); name = γ; now = h }, a), (vptr b o ∷ [], lows 1 (κ, tt) Ps a)), g)
 
@@ -66,10 +68,12 @@ module _ (Ps : List Plain) (R : Plain) (f : Allocator → Values 0 tt Ps → R .
           feqI ! (List Val) (vptr b o ∷ []) (vptr b o ∷ []) refl $ fjoin3 ! $ use0 W (‵ (Had 1 (κ, tt) Ps a)) (had 1 (κ, tt) 𝓤 H A W Ps a are) $ move ! (1 ∷ 0 ∷ []) $ fjoin ! $ frame ! $
           owned ! (R .row) (Is (R .row)) (R .makes 𝓤 H A W) x _ is $ done !
 
-    pub reads : (H : Heap 𝓤) (𝓜 : Model 𝓤 H) (𝓖 : GhostRules 𝓤 H) (𝓡 : Running 𝓤 H 𝓜) (γ : Env) (k key : Name) (r : Routine) → Walk Ps R → Closed 𝓤 H (tables 𝓤 H 𝓜 𝓡 γ .C) (tables 𝓤 H 𝓜 𝓡 γ .Λ) k (reading key Ps R)
+    pub reads : (H : Heap 𝓤) (𝓜 : Model 𝓤 H) (𝓖 : GhostRules 𝓤 H) (𝓡 : Running 𝓤 H 𝓜) (γ : Env) (k key : Name) (r : Routine) → Walk Ps R
+        → Closed 𝓤 H (tables 𝓤 H 𝓜 𝓡 γ .C) (tables 𝓤 H 𝓜 𝓡 γ .Λ) k (reading key Ps R)
         → γ key ≡ r → Triple 𝓤 (𝓡 .run r) (ByValue Ps (R .row) f 𝓤 H (𝓖 .A)) → Meets 𝓤 H (𝓖 .A) (lends .signature) (𝓡 .run (γ k)) (closing 𝓤 H (𝓖 .A) lends c)
     reads H 𝓜 𝓖 𝓡 γ k key r walk closed means met =
-        one-call 𝓤 H 𝓜 𝓖 𝓡 γ lends stayed (goes-none-ref 𝓤 H (𝓖 .A) (givenOf 𝓤 H 𝓜 𝓖) 1 (0 ∷ []) tt (plain (λ _. T.the-row)) yes, all-go 1 𝓤 H (𝓖 .A) (givenOf 𝓤 H 𝓜 𝓖) Ps) c k (reading key Ps R) closed
+        one-call 𝓤 H 𝓜 𝓖 𝓡 γ lends stayed (goes-none-ref 𝓤 H (𝓖 .A) (givenOf 𝓤 H 𝓜 𝓖) 1 (0 ∷ []) tt (plain (λ _. T.the-row)) yes, all-go 1 𝓤 H (𝓖 .A) (givenOf 𝓤 H 𝓜 𝓖) Ps) c k
+        (reading key Ps R) closed
         (ByValue Ps (R .row) f 𝓤 H (𝓖 .A)) key r means met (λ C Λ fm known.
         let W : Given 𝓤 H (𝓖 .A) = givenOf 𝓤 H 𝓜 𝓖 in
         walked 𝓤 H (𝓖 .A) lends stayed c (WpFn 𝓤 H C Λ (reading key Ps R)) (λ κs. (ptr-vals, spells 1 κs Ps)) (λ κs. (shr-tells (named 0) (κs .0) T.the-row, tellss 1 κs Ps)) (λ κs qs bounds a g are.

@@ -77,7 +77,8 @@ walk-with-one P R key M 𝓤 H A W κ q b o γ h C Λ fm x a are known Post exit
     -- [what the Allocator owns; a share of its cell; what shuts it; the fractured borrow; true; res; the rest; _3; …; _2; …; _1; …; room for _0; …]
     assigns ! (of-opd ! (load ! (from ! (hop ! (look ! 11 refl) (stop !))) (look-raw ! 1 refl))) (from ! (stop !)) (init ! 7 refl (typed 𝓤 H A W h is)) $
     owned ! T.the-row (Is T.the-row) (LL.makes T.the-type T′.the-plain 𝓤 H A) h _ is $
-    calls-from ! fm (‵ (T.the-row .own h (mach h ∷ []))) (mach h ∷ P .low (a .0) ∷ []) (known .post) (known .met) (and-then ! (load ! (from ! (stop !)) (look ! 8 refl)) (and-then ! (load ! (from ! (stop !)) (look ! 10 refl)) (no-more !))) (λ v.
+    calls-from ! fm (‵ (T.the-row .own h (mach h ∷ []))) (mach h ∷ P .low (a .0) ∷ []) (known .post) (known .met)
+    (and-then ! (load ! (from ! (stop !)) (look ! 8 refl)) (and-then ! (load ! (from ! (stop !)) (look ! 10 refl)) (no-more !))) (λ v.
     answered ! (R .row) (R .low) (R .tells) (‵ ftrue) (known .ensured) x (known .said) v (known .gives v) (λ is′.
     -- [what the answer owns; true; what the Allocator owns; the share; what shuts it; the fractured borrow; true; res; the rest; _3; …; _2; …; _1; …; room for _0; …]
     land ! (from ! (stop !)) (init ! 15 refl (R .typed 𝓤 H A W x is′)) $ drop ! $ drop ! $ move ! (1 ∷ 0 ∷ []) $ shuts ! tt T.the-row q′ h (mach h ∷ []) b o $

@@ -58,7 +58,8 @@ module _ (page : List ℕ) where
       (more : (o len crc next : ℕ) → chunkAt page o ≡ step.Chunk len crc next → P next (walkFrom page next)
       → P o (record { chunks = record { offset = o; len = len; crc = crc } ∷ walkFrom page next .chunks; ending = walkFrom page next .ending }))
     where
-      rule-after : (n o : ℕ) (s : Step) → chunkAt page o ≡ s → pageSize < o + chunkHeaderSize + chunkHeaderSize * suc n → ((next : ℕ) → pageSize < next + chunkHeaderSize + chunkHeaderSize * n → P next (walkFrom page next))
+      rule-after : (n o : ℕ) (s : Step) → chunkAt page o ≡ s → pageSize < o + chunkHeaderSize + chunkHeaderSize * suc n
+          → ((next : ℕ) → pageSize < next + chunkHeaderSize + chunkHeaderSize * n → P next (walkFrom page next))
           → P o (walkFrom page o)
       rule-after n o step.End e h rest = rw (walk-end o e) (end o e)
       rule-after n o step.Corrupted e h rest = rw (walk-bad o e) (bad o e)

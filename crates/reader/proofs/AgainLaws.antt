@@ -12,7 +12,8 @@ use Rattle.types.specs.declared.refusal.Refusal.the-variants as row
 use Rattle.types.specs.declared.refusal.Verdict.{Verdict}
 use Rattle.types.specs.declared.refusal.Verdict.the-variants.{Fine, Refused}
 use Rattle.flash.specs.Geometry.{pageOf}
-use Rattle.reader.specs.Calls.{passageAfter, taken, read, bytesAfter, laidOver, readBytes, passageOf, skip, endTestAfter, tested, isAtEof, openingAfter, opened, opening, openPage, rehydrating, rehydrateFrom}
+use Rattle.reader.specs.Calls.{passageAfter, taken, read, bytesAfter, laidOver, readBytes, passageOf, skip}
+use Rattle.reader.specs.Calls.{endTestAfter, tested, isAtEof, openingAfter, opened, opening, openPage, rehydrating, rehydrateFrom}
 use Rattle.reader.specs.Checks.{openVerdict, readerVerdict}
 use Rattle.reader.specs.Moves.{ready, skipped}
 use Rattle.reader.specs.States.{restored}

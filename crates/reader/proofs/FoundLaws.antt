@@ -155,7 +155,8 @@ module _ (flash : List ℕ) (page : PageID) (inside : Inside (length flash) (pag
       ready-used bytes z refl (omega arith) ∙ ap (λ (x : ℕ). arriving z x (checkedAt bytes x)) (sym after) in
       reads-some flash (on page t a b c d) (on-fine (on page t a b c d) refl k) n big q (len - 1) (arrived ∙ ap (arriving (on page u a′ b′ c′ d′) o) e) (omega arith)
       ∙ ap₂ andThen whole
-      (ih next false false o len crc (0 + suc (len - 1)) o len crc (0 + suc (len - 1)) (on-range o len crc (0 + suc (len - 1)) g s fits (omega arith)) onward (omega arith) (omega arith) (at .others) (omega arith))
+      (ih next false false o len crc (0 + suc (len - 1)) o len crc (0 + suc (len - 1))
+      (on-range o len crc (0 + suc (len - 1)) g s fits (omega arith)) onward (omega arith) (omega arith) (at .others) (omega arith))
       ∙ sym (finds-step bytes o ∙ ap (findsAt bytes o) e)
 
   reads-are-walk : (n o : ℕ) → Says n o

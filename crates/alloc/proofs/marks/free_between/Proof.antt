@@ -31,7 +31,10 @@ loop-less : tie.Need-loop-less Inv-loop μ-loop
 loop-less c = omega arith
 
 loop-again : tie.Need-loop-again Inv-loop μ-loop
-loop-again c = sym (search-byte (c .before .before .before .before .args .pages .now) (c .before .before .before .loop .i) (c .before .before .before .before .args .to) (c .if1 .taken)) ∙ c .before .before .before .loop .inv
+loop-again c =
+    let at-loop = c .before .before .before in
+    let start = at-loop .before in
+    sym (search-byte (start .args .pages .now) (at-loop .loop .i) (start .args .to) (c .if1 .taken)) ∙ at-loop .loop .inv
 
 cast-if2 : tie.Need-cast-if2 Inv-loop μ-loop
 cast-if2 c = omega arith

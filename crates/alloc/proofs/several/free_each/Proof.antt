@@ -56,14 +56,20 @@ refused-requires-2 : tie.Need-refused-requires-2 Inv-loop μ-loop
 refused-requires-2 c κs = search needs
 
 returns-2 : tie.Need-returns-2 Inv-loop μ-loop
-returns-2 c = c .refused2 .ensures ∙ past _ _ _ _ (c .before .before .before .before .before .loop .inv) (fine (c .before .before .before .before .before .before .before)) (c .before .before .before .before .loop-test .taken) (c .before .if1 .taken)
+returns-2 c =
+    let at-loop-test = c .before .before .before .before in
+    let at-loop = at-loop-test .before in
+    let at-fine = at-loop .before .before in
+    c .refused2 .ensures ∙ past _ _ _ _ (at-loop .loop .inv) (fine at-fine) (at-loop-test .loop-test .taken) (c .before .if1 .taken)
 
 slice-aggregate-is-marked : tie.Need-slice-aggregate-is-marked Inv-loop μ-loop
 slice-aggregate-is-marked c = search needs
 
 -- the allocator of a turn
 abbrev this : tie.At-loop Inv-loop μ-loop → Allocator
-this c = stateOf (c .before .before .before .before .before .before .args .a .«page_count») (c .loop .pages) (c .loop .used) (c .before .before .before .before .before .before .args .a .«next_page_id»)
+this c =
+    let start = c .before .before .before .before .before .before in
+    stateOf (start .args .a .«page_count») (c .loop .pages) (c .loop .used) (start .args .a .«next_page_id»)
 
 known : (c : tie.At-loop Inv-loop μ-loop) → InRange (this c)
 known c = c .loop .inv .sound .1
@@ -76,30 +82,56 @@ refused-requires-3 c κs = search needs
 
 returns-3 : tie.Need-returns-3 Inv-loop μ-loop
 returns-3 c =
+    let at-if1 = c .before .before .before .before in
+    let at-loop-test = at-if1 .before .before .before in
+    let at-loop = at-loop-test .before in
+    let at-fine = at-loop .before .before in
     c .refused3 .ensures
-    ∙ free-already _ _ _ _ (c .before .before .before .before .before .before .before .before .loop .inv) (fine (c .before .before .before .before .before .before .before .before .before .before)) (c .before .before .before .before .before .before .before .loop-test .taken) (c .before .before .before .before .if1 .left) (sym (c .before .before .is-marked .ensures) ∙ not-true _ (c .before .if2 .taken))
+    ∙ free-already _ _ _ _ (at-loop .loop .inv) (fine at-fine) (at-loop-test .loop-test .taken) (at-if1 .if1 .left)
+    (sym (c .before .before .is-marked .ensures) ∙ not-true _ (c .before .if2 .taken))
 
 slice-aggregate-unmark : tie.Need-slice-aggregate-unmark Inv-loop μ-loop
 slice-aggregate-unmark c = search needs
 
 -- the page is used
-used-here : (c : tie.Else2 Inv-loop μ-loop) → isMarked (c .before .before .before .before .before .before .before .loop .pages) (getD (c .before .before .before .before .before .before .before .before .before .before .before .before .before .args .freed .now) (c .before .before .before .before .before .before .before .loop .i) 0) ≡ true
+used-here : (c : tie.Else2 Inv-loop μ-loop)
+    → let at-loop = c .before .before .before .before .before .before .before in
+    let start = at-loop .before .before .before .before .before .before in
+    isMarked (at-loop .loop .pages) (getD (start .args .freed .now) (at-loop .loop .i) 0) ≡ true
 used-here c = sym (c .before .is-marked .ensures) ∙ not-false _ (c .if2 .left)
 
 unmark-requires : tie.Need-unmark-requires Inv-loop μ-loop
-unmark-requires c κs = (search needs, (omega (arith, c .before .before .before .before .if1 .left, known (c .before .before .before .before .before .before .before .before) .few), used-here (c .before)))
+unmark-requires c κs =
+    let at-if1 = c .before .before .before .before in
+    let at-known = at-if1 .before .before .before .before in
+    (search needs, (omega (arith, at-if1 .if1 .left, known at-known .few), used-here (c .before)))
 
 sub-used : tie.Need-sub-used Inv-loop μ-loop
-sub-used c = used-pos (this (c .before .before .before .before .before .before .before .before .before .before)) _ (known (c .before .before .before .before .before .before .before .before .before .before)) (used-here (c .before .before .before))
+sub-used c =
+    let at-used-here = c .before .before .before in
+    let at-this = at-used-here .before .before .before .before .before .before .before in
+    used-pos (this at-this) _ (known at-this) (used-here at-used-here)
 
 add-i : tie.Need-add-i Inv-loop μ-loop
-add-i c = omega (arith, c .before .before .before .before .before .before .before .before .before .before .before .before .before .before .before .before .good, c .before .before .before .before .before .before .before .before .before .loop-test .taken)
+add-i c =
+    let earlier = c .before .before .before .before .before .before .before .before in
+    let at-loop-test = earlier .before in
+    let start = at-loop-test .before .before .before .before .before .before .before in
+    omega (arith, start .good, at-loop-test .loop-test .taken)
 
 loop-less : tie.Need-loop-less Inv-loop μ-loop
-loop-less c = omega (arith, c .before .before .before .before .before .before .before .before .before .loop-test .taken)
+loop-less c =
+    let earlier = c .before .before .before .before .before .before .before .before in
+    let at-loop-test = earlier .before in
+    omega (arith, at-loop-test .loop-test .taken)
 
 loop-again : tie.Need-loop-again Inv-loop μ-loop
-loop-again c = free-on _ _ _ _ (c .before .before .before .before .before .before .before .before .before .before .loop .inv) _ (c .before .before .before .before .before .before .before .before .before .loop-test .taken) (c .before .before .before .before .before .before .if1 .left) (used-here (c .before .before .before)) (c .before .unmark .ensures)
+loop-again c =
+    let at-used-here = c .before .before .before in
+    let at-if1 = at-used-here .before .before .before in
+    let at-loop-test = at-if1 .before .before .before in
+    let at-loop = at-loop-test .before in
+    free-on _ _ _ _ (at-loop .loop .inv) _ (at-loop-test .loop-test .taken) (at-if1 .if1 .left) (used-here at-used-here) (c .before .unmark .ensures)
 
 returns-4 : tie.Need-returns-4 Inv-loop μ-loop
 returns-4 c = all-freed _ _ _ _ (c .before .loop .inv) (fine (c .before .before .before)) (c .loop-test .left)

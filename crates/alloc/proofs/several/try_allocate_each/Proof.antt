@@ -71,7 +71,10 @@ same-length c = c .before .before .before .before .before .before .loop .inv .lo
 
 returns-2 : tie.Need-returns-2 Inv-loop μ-loop
 returns-2 c =
-    let end = no-page _ _ _ _ _ (c .before .before .before .before .before .before .loop .inv) (fine (c .before .before .before .before .before .before .before .before)) (sym (c .before .before .before .first-free .ensures) ∙ c .before .enum-told2 .given .1) in
+    let at-first-free = c .before .before .before in
+    let at-loop = at-first-free .before .before .before in
+    let at-fine = at-loop .before .before in
+    let end = no-page _ _ _ _ _ (at-loop .loop .inv) (fine at-fine) (sym (at-first-free .first-free .ensures) ∙ c .before .enum-told2 .given .1) in
     (c .handed .ensures ∙ end .0, end .1)
 
 index-requires : tie.Need-index-requires Inv-loop μ-loop
@@ -84,8 +87,11 @@ slice-aggregate-mark c = search needs
 page-found : (c : tie.After-index Inv-loop μ-loop) → found (this (c .before .before .before .before .before .before .before)) ≡ Some (c .before .before .page .given .0 .0)
 page-found c = sym (c .before .before .before .before .first-free .ensures) ∙ c .before .before .page .given .1
 
-free-here : (c : tie.After-index Inv-loop μ-loop) → (c .index .result < this (c .before .before .before .before .before .before .before) .«page_count») × (isMarked (this (c .before .before .before .before .before .before .before) .pages) (c .index .result) ≡ false)
-free-here c = found-free (this (c .before .before .before .before .before .before .before)) (c .before .before .page .given .0 .0) (c .index .result) (known (c .before .before .before .before .before .before .before)) (page-found c) (c .index .ensures)
+free-here : (c : tie.After-index Inv-loop μ-loop) → (c .index .result < this (c .before .before .before .before .before .before .before) .«page_count»)
+    × (isMarked (this (c .before .before .before .before .before .before .before) .pages) (c .index .result) ≡ false)
+free-here c =
+    let at-this = c .before .before .before .before .before .before .before in
+    found-free (this at-this) (c .before .before .page .given .0 .0) (c .index .result) (known at-this) (page-found c) (c .index .ensures)
 
 mark-requires : tie.Need-mark-requires Inv-loop μ-loop
 mark-requires c κs =
@@ -94,28 +100,53 @@ mark-requires c κs =
 
 add-used : tie.Need-add-used Inv-loop μ-loop
 add-used c =
-    let b = c .before .before .before in
-    omega (arith, used-le (this (b .before .before .before .before .before .before .before)) (known (b .before .before .before .before .before .before .before)), known (b .before .before .before .before .before .before .before) .few)
+    let at-place = c .before .before .before in
+    let b = at-place in
+    omega (
+      arith,
+      used-le (this (b .before .before .before .before .before .before .before)) (known (b .before .before .before .before .before .before .before)),
+      known
+          (b .before .before .before .before .before .before .before) .few,
+    )
 
 page-past-requires : tie.Need-page-past-requires Inv-loop μ-loop
 page-past-requires c κs = free-here (c .before .before .before) .0
 
 mul-places : tie.Need-mul-places Inv-loop μ-loop
-mul-places c = omega (arith, c .before .before .before .before .before .before .before .before .before .before .before .before .before .before .before .before .before .good, c .before .before .before .before .before .before .before .before .before .before .before .loop .inv .long, c .before .before .before .before .before .before .before .before .before .before .loop-test .taken)
+mul-places c =
+    let earlier = c .before .before .before .before .before .before .before .before in
+    let at-loop-test = earlier .before .before in
+    let at-loop = at-loop-test .before in
+    let start = at-loop .before .before .before .before .before .before in
+    omega (arith, start .good, at-loop .loop .inv .long, at-loop-test .loop-test .taken)
 
 slice-write-places : tie.Need-slice-write-places Inv-loop μ-loop
-slice-write-places c = c .before .before .before .before .before .before .before .before .before .before .loop-test .taken
+slice-write-places c =
+    let earlier = c .before .before .before .before .before .before .before .before in
+    let at-loop-test = earlier .before .before in
+    at-loop-test .loop-test .taken
 
 add-i : tie.Need-add-i Inv-loop μ-loop
-add-i c = omega (arith, c .before .before .before .before .before .before .before .before .before .before .before .before .before .before .before .before .before .good, c .before .before .before .before .before .before .before .before .before .before .before .loop .inv .long, c .before .before .before .before .before .before .before .before .before .before .loop-test .taken)
+add-i c =
+    let earlier = c .before .before .before .before .before .before .before .before in
+    let at-loop-test = earlier .before .before in
+    let at-loop = at-loop-test .before in
+    let start = at-loop .before .before .before .before .before .before in
+    omega (arith, start .good, at-loop .loop .inv .long, at-loop-test .loop-test .taken)
 
 loop-less : tie.Need-loop-less Inv-loop μ-loop
-loop-less c = rw (length-set (c .before .before .before .before .before .before .before .before .before .before .before .loop .places) (c .before .before .before .before .before .before .before .before .before .before .before .loop .i) _) (omega (arith, c .before .before .before .before .before .before .before .before .before .before .loop-test .taken))
+loop-less c =
+    let earlier = c .before .before .before .before .before .before .before .before in
+    let at-loop-test = earlier .before .before in
+    let at-loop = at-loop-test .before in
+    rw (length-set (at-loop .loop .places) (at-loop .loop .i) _) (omega (arith, at-loop-test .loop-test .taken))
 
 loop-again : tie.Need-loop-again Inv-loop μ-loop
 loop-again c =
-    let b = c .before .before .before .before in
-    hand-on _ _ _ _ _ (b .before .before .before .before .before .before .before .loop .inv) _ _ _ _ (b .before .before .before .before .before .before .loop-test .taken) (page-found b) (b .index .ensures) (c .before .before .mark .ensures) (c .page-past .ensures)
+    let at-place = c .before .before .before .before in
+    let b = at-place in
+    hand-on _ _ _ _ _ (b .before .before .before .before .before .before .before .loop .inv) _ _ _ _ (b .before .before .before .before .before .before .loop-test .taken) (page-found b)
+    (b .index .ensures) (c .before .before .mark .ensures) (c .page-past .ensures)
 
 handed-requires-2 : tie.Need-handed-requires-2 Inv-loop μ-loop
 handed-requires-2 c κs = search needs

@@ -24,9 +24,13 @@ same-length c = search needs
 
 returns : tie.Need-returns
 returns c =
-    let a = c .before .before .before .before .before .before .before .before .before .args in
-    let d = c .before .before .before .before .before .before .all-digits in
-    (decoded-fits (a .word .now) (length (a .out .now)) (d .result) (d .ensures) (c .before .before .before .before .before .if1 .taken) (c .before .before .before .before .if2 .taken), c .before .before .put-bytes .ensures)
+    let at-if2 = c .before .before .before .before in
+    let at-if1 = at-if2 .before in
+    let at-all-digits = at-if1 .before in
+    let start = at-all-digits .before .before .before in
+    let a = start .args in
+    let d = at-all-digits .all-digits in
+    (decoded-fits (a .word .now) (length (a .out .now)) (d .result) (d .ensures) (at-if1 .if1 .taken) (at-if2 .if2 .taken), c .before .before .put-bytes .ensures)
 
 returns-2 : tie.Need-returns-2
 returns-2 c =

@@ -30,7 +30,22 @@ digit-of-requires-8 c κs = search needs
 
 returns : tie.Need-returns
 unfolding digitsOf
-returns c = rw (c .digit-of8 .ensures, c .before .digit-of7 .ensures, c .before .before .digit-of6 .ensures, c .before .before .before .digit-of5 .ensures, c .before .before .before .before .digit-of4 .ensures, c .before .before .before .before .before .digit-of3 .ensures, c .before .before .before .before .before .before .digit-of2 .ensures, c .before .before .before .before .before .before .before .digit-of .ensures)
+returns c =
+    let at-digit-of5 = c .before .before .before in
+    let at-digit-of4 = at-digit-of5 .before in
+    let at-digit-of3 = at-digit-of4 .before in
+    let at-digit-of2 = at-digit-of3 .before in
+    let at-digit-of = at-digit-of2 .before in
+    rw (
+      c .digit-of8 .ensures,
+      c .before .digit-of7 .ensures,
+      c .before .before .digit-of6 .ensures,
+      at-digit-of5 .digit-of5 .ensures,
+      at-digit-of4 .digit-of4 .ensures,
+      at-digit-of3 .digit-of3 .ensures,
+      at-digit-of2 .digit-of2 .ensures,
+      at-digit-of .digit-of .ensures,
+    )
 
 pub hex32-spec : {M : Type 1} → statement M
 hex32-spec =

@@ -40,11 +40,16 @@ enum-told c = search needs
 
 returns-2 : tie.Need-returns-2 Inv-loop μ-loop
 returns-2 c =
-    let l = c .before .before .before .before .before .before in
+    let at-digit-in = c .before .before .before in
+    let at-loop-test = at-digit-in .before .before in
+    let at-place = at-loop-test .before in
+    let l = at-place in
     let a = l .before .before .before .args in
-    let d = c .before .before .before .digit-in in
+    let d = at-digit-in .digit-in in
     let r = c .before .before .joined in
-    number-read (a .base) (a .most) (a .word .now) NoNumber (l .before .if1 .left) (read-stops (a .base) (a .most) (a .word .now) (l .loop .i) (l .loop .n) (c .before .before .before .before .before .loop-test .taken) (d .result) (r .result) (d .ensures) (r .ensures) (c .enum-told .given .1) ∙ l .loop .inv)
+    number-read (a .base) (a .most) (a .word .now) NoNumber (l .before .if1 .left)
+    (read-stops (a .base) (a .most) (a .word .now) (l .loop .i) (l .loop .n) (at-loop-test .loop-test .taken) (d .result) (r .result) (d .ensures) (r .ensures) (c .enum-told .given .1)
+    ∙ l .loop .inv)
 
 add-i : tie.Need-add-i Inv-loop μ-loop
 add-i c = search needs
@@ -54,11 +59,16 @@ loop-less c = search needs
 
 loop-again : tie.Need-loop-again Inv-loop μ-loop
 loop-again c =
-    let l = c .before .before .before .before .before .before .before in
+    let at-joined = c .before .before .before in
+    let at-digit-in = at-joined .before in
+    let at-loop-test = at-digit-in .before .before in
+    let at-place = at-loop-test .before in
+    let l = at-place in
     let a = l .before .before .before .args in
-    let d = c .before .before .before .before .digit-in in
-    let r = c .before .before .before .joined in
-    read-turn (a .base) (a .most) (a .word .now) (l .loop .i) (l .loop .n) (c .before .before .before .before .before .before .loop-test .taken) (d .result) (r .result) (Value (c .before .next .given .0 .0)) (d .ensures) (r .ensures) (c .before .next .given .1) ∙ l .loop .inv
+    let d = at-digit-in .digit-in in
+    let r = at-joined .joined in
+    read-turn (a .base) (a .most) (a .word .now) (l .loop .i) (l .loop .n) (at-loop-test .loop-test .taken) (d .result) (r .result) (Value (c .before .next .given .0 .0)) (d .ensures)
+    (r .ensures) (c .before .next .given .1) ∙ l .loop .inv
 
 returns-3 : tie.Need-returns-3 Inv-loop μ-loop
 returns-3 c =

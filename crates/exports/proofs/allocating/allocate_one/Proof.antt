@@ -14,7 +14,10 @@ mixed-requires : tie.Need-mixed-requires
 mixed-requires c κs = search needs
 
 returns : tie.Need-returns
-returns c = allocate-step (c .before .before .before .before .before .args .t) (c .before .before .before .try-allocate .result) _ _ (c .before .before .before .try-allocate .ensures) (c .before .code-of .ensures) (c .mixed .ensures)
+returns c =
+    let at-try-allocate = c .before .before .before in
+    let start = at-try-allocate .before .before in
+    allocate-step (start .args .t) (at-try-allocate .try-allocate .result) _ _ (at-try-allocate .try-allocate .ensures) (c .before .code-of .ensures) (c .mixed .ensures)
 
 pub allocate-one-spec : {M : Type 1} → statement M
 allocate-one-spec =

@@ -17,7 +17,9 @@ cast-t8 : tie.Need-cast-t8
 cast-t8 c = search needs
 
 returns : tie.Need-returns
-returns c = begun-by _ _ (c .before .before .before .new .result) (c .before .before .reset .result) _ (c .before .before .before .new .ensures) (c .before .before .reset .ensures) (c .number .ensures)
+returns c =
+    let at-new = c .before .before .before in
+    begun-by _ _ (at-new .new .result) (c .before .before .reset .result) _ (at-new .new .ensures) (c .before .before .reset .ensures) (c .number .ensures)
 
 pub begun-spec : {M : Type 1} → statement M
 begun-spec = tie.close (tie.spec new-requires reset-requires number-requires cast-t8 returns)

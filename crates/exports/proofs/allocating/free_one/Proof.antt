@@ -17,7 +17,10 @@ mixed-requires : tie.Need-mixed-requires
 mixed-requires c κs = search needs
 
 returns : tie.Need-returns
-returns c = free-step (c .before .before .before .before .before .args .page) (c .before .before .before .before .before .args .t) (c .before .before .before .free .result) _ _ (c .before .before .before .free .ensures) (c .before .number .ensures) (c .mixed .ensures)
+returns c =
+    let at-free = c .before .before .before in
+    let start = at-free .before .before in
+    free-step (start .args .page) (start .args .t) (at-free .free .result) _ _ (at-free .free .ensures) (c .before .number .ensures) (c .mixed .ensures)
 
 pub free-one-spec : {M : Type 1} → statement M
 free-one-spec =

@@ -14,7 +14,8 @@ free-all-requires : tie.Need-free-all-requires
 free-all-requires c κs = search needs
 
 returns : tie.Need-returns
-returns c = cycle _ _ (c .before .before .begun .result) (c .before .allocate-all .result) (c .free-all .result) (c .before .before .begun .ensures) (c .before .allocate-all .ensures) (c .free-all .ensures)
+returns c =
+    cycle _ _ (c .before .before .begun .result) (c .before .allocate-all .result) (c .free-all .result) (c .before .before .begun .ensures) (c .before .allocate-all .ensures) (c .free-all .ensures)
 
 pub puffcradle-alloc-cycle-spec : {M : Type 1} → statement M
 puffcradle-alloc-cycle-spec =

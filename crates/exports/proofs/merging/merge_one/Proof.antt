@@ -25,12 +25,16 @@ same-length-2 c = search needs
 
 returns : tie.Need-returns
 returns c =
-    let a = c .before .before .before .before .before .before .before .before .before .before .before .before .before .before .before .before .before .before .args in
+    let earlier = c .before .before .before .before .before .before .before .before in
+    let at-next = earlier .before in
+    let still-earlier = at-next .before .before .before .before .before .before .before .before in
+    let start = still-earlier .before in
+    let a = start .args in
     let runs = now (a .runs) in
     let ends = now (a .ends) in
     let key = now (a .key) in
     let value = now (a .value) in
-    let next = c .before .before .before .before .before .before .before .before .before .next in (
+    let next = at-next .next in (
       merge-step runs ends (a .m) key value _ _ (next .ensures .1) (next .result) _ _ (next .ensures .0) (c .before .summed .ensures) (c .is-entry .ensures),
       merge-bytes runs ends (a .m) key value _ _ (next .ensures .1),
     )

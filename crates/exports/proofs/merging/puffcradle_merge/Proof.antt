@@ -10,7 +10,8 @@ use Rattle.exports.proofs.merging.puffcradle_merge.Statement.{statement
 use Rattle.exports.proofs.merging.puffcradle_merge.Tie as tie
 
 abbrev Inv-loop : tie.InvT-loop
-Inv-loop runs ends most key₀ value₀ m₀ left₀ key value m left = (length key ≡ length key₀) × (length value ≡ length value₀) × (mergeOn left runs ends (stateOf m key value) ≡ mergeAll most runs ends key₀ value₀)
+Inv-loop runs ends most key₀ value₀ m₀ left₀ key value m left = (length key ≡ length key₀) × (length value ≡ length value₀)
+    × (mergeOn left runs ends (stateOf m key value) ≡ mergeAll most runs ends key₀ value₀)
 
 abbrev μ-loop : tie.MeasureT-loop
 μ-loop runs ends most key₀ value₀ m₀ left₀ key value m left = left
@@ -40,7 +41,16 @@ loop-less : tie.Need-loop-less Inv-loop μ-loop
 loop-less c = omega arith
 
 loop-again : tie.Need-loop-again Inv-loop μ-loop
-loop-again c = (c .before .before .before .before .merge-one .kept .1 .1 .1 .0 ∙ c .before .before .before .before .before .before .before .before .before .before .loop .inv .0, c .before .before .before .before .merge-one .kept .1 .1 .1 .1 .0 ∙ c .before .before .before .before .before .before .before .before .before .before .loop .inv .1, calls-more _ _ _ _ _ _ _ (c .before .before .before .before .before .before .before .before .before .before .loop .inv .2) _ _ _ (omega arith) (not-false _ (c .before .before .before .before .before .before .before .if1 .left)) (c .before .before .before .before .merge-one .ensures .0) (c .before .before .before .before .merge-one .ensures .1))
+loop-again c =
+    let at-merge-one = c .before .before .before .before in
+    let at-if1 = at-merge-one .before .before .before in
+    let at-loop = at-if1 .before .before .before in (
+      at-merge-one .merge-one .kept .1 .1 .1 .0 ∙ at-loop .loop .inv .0,
+      at-merge-one .merge-one .kept .1 .1 .1 .1 .0
+          ∙ at-loop .loop .inv .1,
+      calls-more _ _ _ _ _ _ _ (at-loop .loop .inv .2) _ _ _ (omega arith) (not-false _ (at-if1 .if1 .left)) (at-merge-one .merge-one .ensures .0)
+          (at-merge-one .merge-one .ensures .1),
+    )
 
 same-length-3 : tie.Need-same-length-3 Inv-loop μ-loop
 same-length-3 c = c .before .loop .inv .0

@@ -50,7 +50,13 @@ returns : tie.Need-returns
 returns c = sum-end _ _ _ _ (c .enum-told .given .1)
 
 returns-2 : tie.Need-returns-2
-returns-2 c = sum-entry _ _ _ _ _ _ _ _ _ _ _ _ (c .before .before .before .before .before .before .before .answer .given .1) (c .before .before .before .before .before .mixed .ensures) (c .before .before .before .before .mixed2 .ensures) (c .before .before .before .get32 .ensures) (c .before .before .mixed3 .ensures) (c .before .get322 .ensures) (c .mixed4 .ensures)
+returns-2 c =
+    let at-get32 = c .before .before .before in
+    let at-mixed2 = at-get32 .before in
+    let at-mixed = at-mixed2 .before in
+    let at-answer = at-mixed .before .before in
+    sum-entry _ _ _ _ _ _ _ _ _ _ _ _ (at-answer .answer .given .1) (at-mixed .mixed .ensures) (at-mixed2 .mixed2 .ensures) (at-get32 .get32 .ensures) (c .before .before .mixed3 .ensures)
+    (c .before .get322 .ensures) (c .mixed4 .ensures)
 
 returns-3 : tie.Need-returns-3
 returns-3 c = sum-refused _ _ _ _ _ _ _ (c .before .before .before .answer2 .given .1) (c .before .number .ensures) (c .mixed5 .ensures)

@@ -32,13 +32,19 @@ same-length-2 c = search needs
 
 returns : tie.Need-returns
 returns c =
-    let a = c .before .before .before .before .before .before .before .before .before .before .before .before .before .before .before .args in
+    let at-read-all = c .before .before .before in
+    let at-reading-at = at-read-all .before .before in
+    let at-open = at-reading-at .before .before .before .before in
+    let at-new = at-open .before .before in
+    let start = at-new .before .before .before .before in
+    let a = start .args in
     let h = length (now (a .header)) in
-    let new = c .before .before .before .before .before .before .before .before .before .before .before .new in
-    let opened = c .before .before .before .before .before .before .before .before .before .«open» in
-    let start = c .before .before .before .before .before .reading-at in
-    let all = c .before .before .before .read-all in (
-      page-read (now (a .flash)) (a .magic) (a .page) h (now (a .out)) (new .result) (opened .result) (start .result) (new .ensures) (opened .ensures .0) (start .ensures) (all .result) _ (all .ensures .0) (c .told .ensures),
+    let new = at-new .new in
+    let opened = at-open .«open» in
+    let start = at-reading-at .reading-at in
+    let all = at-read-all .read-all in (
+      page-read (now (a .flash)) (a .magic) (a .page) h (now (a .out)) (new .result) (opened .result) (start .result) (new .ensures) (opened .ensures .0) (start .ensures) (all .result) _
+          (all .ensures .0) (c .told .ensures),
       (
         opened .ensures .1 ∙ ap (λ (r : PageReader). openBytes r (now (a .flash)) (a .magic) (record { 0 = a .page }) (now (a .header))) (new .ensures),
         page-out (now (a .flash)) (a .magic) (a .page) h (now (a .out)) (new .result) (opened .result) (start .result) (new .ensures) (opened .ensures .0) (start .ensures) _ (all .ensures .1),

@@ -26,8 +26,12 @@ enum-known-answer c = search needs
 
 add-t16 : tie.Need-add-t16
 add-t16 c =
-    let a = c .before .before .before .before .before .before .before .before .before .before .before .before .args in
-    let within = put-within (now (a .flash)) (now (a .out)) (a .r) (c .before .before .before .before .before .before .before .before .before .least .result) (c .before .before .before .before .before .before .before .before .before .least .ensures) (c .before .before .before .before .before .before .read .result) (c .before .answer .given .0 .0) (c .before .before .before .before .before .before .read .ensures .0) (c .before .answer .given .1) in
+    let at-read = c .before .before .before .before .before .before in
+    let at-least = at-read .before .before .before in
+    let start = at-least .before .before .before in
+    let a = start .args in
+    let within = put-within (now (a .flash)) (now (a .out)) (a .r) (at-least .least .result) (at-least .least .ensures) (at-read .read .result) (c .before .answer .given .0 .0)
+    (at-read .read .ensures .0) (c .before .answer .given .1) in
     omega arith
 
 enum-known-answer-2 : tie.Need-enum-known-answer-2
@@ -41,9 +45,12 @@ same-length c = search needs
 
 returns : tie.Need-returns
 returns c =
-    let a = c .before .before .before .before .before .before .before .before .before .before .before .before .args in (
-      read-some (now (a .flash)) (now (a .out)) (a .r) (c .before .before .before .before .before .before .before .before .before .least .result) (c .before .before .before .before .before .before .before .before .before .least .ensures) (c .before .before .before .before .before .before .read .result) _ (c .before .before .before .before .before .before .read .ensures .0) (c .before .answer .given .1),
-      read-put (now (a .flash)) (now (a .out)) (a .r) (c .before .before .before .before .before .before .before .before .before .least .result) (c .before .before .before .before .before .before .before .before .before .least .ensures) _ (c .before .before .before .before .before .before .read .ensures .1),
+    let at-read = c .before .before .before .before .before .before in
+    let at-least = at-read .before .before .before in
+    let start = at-least .before .before .before in
+    let a = start .args in (
+      read-some (now (a .flash)) (now (a .out)) (a .r) (at-least .least .result) (at-least .least .ensures) (at-read .read .result) _ (at-read .read .ensures .0) (c .before .answer .given .1),
+      read-put (now (a .flash)) (now (a .out)) (a .r) (at-least .least .result) (at-least .least .ensures) _ (at-read .read .ensures .1),
     )
 
 same-length-2 : tie.Need-same-length-2
@@ -51,9 +58,13 @@ same-length-2 c = search needs
 
 returns-2 : tie.Need-returns-2
 returns-2 c =
-    let a = c .before .before .before .before .before .before .before .before .before .before .before .before .before .args in (
-      read-refused (now (a .flash)) (now (a .out)) (a .r) (c .before .before .before .before .before .before .before .before .before .before .least .result) (c .before .before .before .before .before .before .before .before .before .before .least .ensures) (c .before .before .before .before .before .before .before .read .result) _ _ (c .before .before .before .before .before .before .before .read .ensures .0) (c .before .before .answer2 .given .1) (c .number .ensures),
-      read-put (now (a .flash)) (now (a .out)) (a .r) (c .before .before .before .before .before .before .before .before .before .before .least .result) (c .before .before .before .before .before .before .before .before .before .before .least .ensures) _ (c .before .before .before .before .before .before .before .read .ensures .1),
+    let at-read = c .before .before .before .before .before .before .before in
+    let at-least = at-read .before .before .before in
+    let start = at-least .before .before .before in
+    let a = start .args in (
+      read-refused (now (a .flash)) (now (a .out)) (a .r) (at-least .least .result) (at-least .least .ensures) (at-read .read .result) _ _ (at-read .read .ensures .0)
+          (c .before .before .answer2 .given .1) (c .number .ensures),
+      read-put (now (a .flash)) (now (a .out)) (a .r) (at-least .least .result) (at-least .least .ensures) _ (at-read .read .ensures .1),
     )
 
 pub read-one-spec : {M : Type 1} → statement M

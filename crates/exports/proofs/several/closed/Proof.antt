@@ -24,7 +24,11 @@ mixed-requires-2 c κs = search needs
 
 returns : tie.Need-returns
 returns c =
-    closed-by _ _ _ _ _ (c .before .before .before .before .before .before .args .change) (c .before .before .free-pages .result) (c .before .before .before .before .number .ensures) (c .before .before .before .mixed .ensures) (c .before .before .free-pages .ensures) (c .before .count-code .ensures) (c .mixed2 .ensures)
+    let at-mixed = c .before .before .before in
+    let at-number = at-mixed .before in
+    let start = at-number .before .before in
+    closed-by _ _ _ _ _ (start .args .change) (c .before .before .free-pages .result) (at-number .number .ensures) (at-mixed .mixed .ensures) (c .before .before .free-pages .ensures)
+    (c .before .count-code .ensures) (c .mixed2 .ensures)
 
 pub closed-spec : {M : Type 1} → statement M
 closed-spec =

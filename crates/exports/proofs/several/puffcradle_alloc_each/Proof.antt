@@ -27,7 +27,12 @@ same-length c = search needs
 
 returns : tie.Need-returns
 returns c =
-    each-by _ _ _ _ (c .before .before .before .before .before .before .before .before .before .before .before .begun .result) (c .before .before .before .before .before .before .before .before .try-allocate-each .result) _ _ _ _ (c .before .before .before .before .before .before .before .before .before .before .before .begun .ensures) (c .before .before .before .before .before .before .before .before .try-allocate-each .ensures .0) (c .before .before .before .before .before .before .before .before .try-allocate-each .ensures .1) (c .before .before .before .before .count-code .ensures) (c .before .before .before .mixed .ensures) (c .before .before .pages-of .ensures) (c .given-back .ensures)
+    let at-mixed = c .before .before .before in
+    let at-count-code = at-mixed .before in
+    let at-try-allocate-each = at-count-code .before .before .before .before in
+    let at-begun = at-try-allocate-each .before .before .before in
+    each-by _ _ _ _ (at-begun .begun .result) (at-try-allocate-each .try-allocate-each .result) _ _ _ _ (at-begun .begun .ensures) (at-try-allocate-each .try-allocate-each .ensures .0)
+    (at-try-allocate-each .try-allocate-each .ensures .1) (at-count-code .count-code .ensures) (at-mixed .mixed .ensures) (c .before .before .pages-of .ensures) (c .given-back .ensures)
 
 pub puffcradle-alloc-each-spec : {M : Type 1} → statement M
 puffcradle-alloc-each-spec =

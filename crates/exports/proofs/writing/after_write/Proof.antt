@@ -24,7 +24,9 @@ returns : tie.Need-returns
 returns c = after-took (c .before .before .before .before .args .from) _ (c .before .before .before .before .args .w) (c .before .answer .given .1)
 
 returns-2 : tie.Need-returns-2
-returns-2 c = after-refused (c .before .before .before .before .before .args .from) _ _ (c .before .before .before .before .before .args .w) (c .before .before .answer2 .given .1) (c .number .ensures)
+returns-2 c =
+    let start = c .before .before .before .before .before in
+    after-refused (start .args .from) _ _ (start .args .w) (c .before .before .answer2 .given .1) (c .number .ensures)
 
 pub after-write-spec : {M : Type 1} → statement M
 after-write-spec =

@@ -22,8 +22,12 @@ same-length c = search needs
 
 returns : tie.Need-returns
 returns c =
-    let a = c .before .before .before .before .before .before .before .before .before .before .args in
-    begun-refused (now (a .flash)) (a .magic) (a .page) (now (a .header)) (a .left) (c .before .before .before .before .before .before .before .new .result) (c .before .before .before .before .before .«open» .result) (c .before .before .before .before .before .before .before .new .ensures) (c .before .before .before .before .before .«open» .ensures) _ _ (c .before .before .answer .given .1) (c .number .ensures)
+    let at-open = c .before .before .before .before .before in
+    let at-new = at-open .before .before in
+    let start = at-new .before .before .before in
+    let a = start .args in
+    begun-refused (now (a .flash)) (a .magic) (a .page) (now (a .header)) (a .left) (at-new .new .result) (at-open .«open» .result) (at-new .new .ensures) (at-open .«open» .ensures) _ _
+    (c .before .before .answer .given .1) (c .number .ensures)
 
 enum-told : tie.Need-enum-told
 enum-told c = search needs
@@ -39,8 +43,15 @@ same-length-2 c = search needs
 
 returns-2 : tie.Need-returns-2
 returns-2 c =
-    let a = c .before .before .before .before .before .before .before .before .before .before .before .before .before .args in
-    begun-open (now (a .flash)) (a .magic) (a .page) (now (a .header)) (a .left) (c .before .before .before .before .before .before .before .before .before .before .new .result) (c .before .before .before .before .before .before .before .before .«open» .result) (c .before .before .before .before .before .before .before .before .before .before .new .ensures) (c .before .before .before .before .before .before .before .before .«open» .ensures) (c .before .before .before .write-header .result) _ _ (c .before .before .before .before .before .enum-told .given .1) (c .before .before .before .write-header .ensures .0) (c .before .before .before .write-header .ensures .1) (c .after-header .ensures)
+    let at-write-header = c .before .before .before in
+    let at-enum-told = at-write-header .before .before in
+    let at-open = at-enum-told .before .before .before in
+    let at-new = at-open .before .before in
+    let start = at-new .before .before .before in
+    let a = start .args in
+    begun-open (now (a .flash)) (a .magic) (a .page) (now (a .header)) (a .left) (at-new .new .result) (at-open .«open» .result) (at-new .new .ensures) (at-open .«open» .ensures)
+    (at-write-header .write-header .result) _ _ (at-enum-told .enum-told .given .1) (at-write-header .write-header .ensures .0) (at-write-header .write-header .ensures .1)
+    (c .after-header .ensures)
 
 pub begun-spec : {M : Type 1} → statement M
 begun-spec =

@@ -24,7 +24,12 @@ same-length : tie.Need-same-length
 same-length c = search needs
 
 returns-2 : tie.Need-returns-2
-returns-2 c = finished-done (c .before .before .before .before .before .before .before .before .before .before .args .w) (now (c .before .before .before .before .before .before .before .before .before .before .args .flash)) (c .before .before .before .before .commit .result) _ _ _ (c .before .before .before .before .before .before .before .if1 .left) (c .before .before .before .before .commit .ensures .0) (c .before .before .before .before .commit .ensures .1) (c .before .number .ensures) (c .told2 .ensures)
+returns-2 c =
+    let at-commit = c .before .before .before .before in
+    let at-if1 = at-commit .before .before .before in
+    let start = at-if1 .before .before .before in
+    finished-done (start .args .w) (now (start .args .flash)) (at-commit .commit .result) _ _ _ (at-if1 .if1 .left) (at-commit .commit .ensures .0) (at-commit .commit .ensures .1)
+    (c .before .number .ensures) (c .told2 .ensures)
 
 pub finished-spec : {M : Type 1} → statement M
 finished-spec =

@@ -19,8 +19,12 @@ same-length c = search needs
 
 returns : tie.Need-returns
 returns c =
-    let a = c .before .before .before .before .before .before .before .before .before .before .before .before .before .before .before .args in
-    page-written (now (a .flash)) (a .magic) (a .page) (now (a .header)) (now (a .payload)) (a .piece) (a .left) (c .before .before .before .before .before .before .before .before .before .before .begun .result) (c .before .before .before .before .before .before .write-all .result) _ _ _ _ (c .before .before .before .before .before .before .before .before .before .before .begun .ensures) (c .before .before .before .before .before .before .write-all .ensures) (c .before .before .finished .ensures)
+    let at-write-all = c .before .before .before .before .before .before in
+    let at-begun = at-write-all .before .before .before .before in
+    let start = at-begun .before .before .before .before .before in
+    let a = start .args in
+    page-written (now (a .flash)) (a .magic) (a .page) (now (a .header)) (now (a .payload)) (a .piece) (a .left) (at-begun .begun .result) (at-write-all .write-all .result) _ _ _ _
+    (at-begun .begun .ensures) (at-write-all .write-all .ensures) (c .before .before .finished .ensures)
 
 pub puffcradle-write-page-spec : {M : Type 1} → statement M
 puffcradle-write-page-spec =

@@ -17,16 +17,25 @@ write-requires c κs = search needs
 
 after-write-requires : tie.Need-after-write-requires
 after-write-requires c κs =
-    let a = c .before .before .before .before .before .before .before .before .before .args in
-    write-fits (now (a .payload)) (a .piece) (now (a .flash)) (a .w) (c .before .before .before .before .before .before .least .result) (c .before .before .before .part-of .result .now) (c .before .before .before .before .before .before .least .ensures) (c .before .before .before .part-of .ensures) (c .before .before .write .result) (c .before .before .write .ensures .0) (omega arith)
+    let at-part-of = c .before .before .before in
+    let at-least = at-part-of .before .before .before in
+    let start = at-least .before .before .before in
+    let a = start .args in
+    write-fits (now (a .payload)) (a .piece) (now (a .flash)) (a .w) (at-least .least .result) (at-part-of .part-of .result .now) (at-least .least .ensures) (at-part-of .part-of .ensures)
+    (c .before .before .write .result) (c .before .before .write .ensures .0) (omega arith)
 
 same-length : tie.Need-same-length
 same-length c = search needs
 
 returns : tie.Need-returns
 returns c =
-    let a = c .before .before .before .before .before .before .before .before .before .before .args in
-    write-step (now (a .payload)) (a .piece) (now (a .flash)) (a .w) (c .before .before .before .before .before .before .before .least .result) (c .before .before .before .before .part-of .result .now) (c .before .before .before .before .before .before .before .least .ensures) (c .before .before .before .before .part-of .ensures) (c .before .before .before .write .result) _ _ (c .before .before .before .write .ensures .0) (c .before .before .before .write .ensures .1) (c .after-write .ensures)
+    let at-write = c .before .before .before in
+    let at-part-of = at-write .before in
+    let at-least = at-part-of .before .before .before in
+    let start = at-least .before .before .before in
+    let a = start .args in
+    write-step (now (a .payload)) (a .piece) (now (a .flash)) (a .w) (at-least .least .result) (at-part-of .part-of .result .now) (at-least .least .ensures) (at-part-of .part-of .ensures)
+    (at-write .write .result) _ _ (at-write .write .ensures .0) (at-write .write .ensures .1) (c .after-write .ensures)
 
 pub write-one-spec : {M : Type 1} → statement M
 write-one-spec =

@@ -78,7 +78,8 @@ module _ {M : Type 1} (𝓤 : URA M) (H : Heap 𝓤) (A : Atoms 𝓤) (W : Given
     walk p =
         qed W (raw (onEntry 𝓤 H A new.signature (κ, tt) (q, tt) (s, tt) at) ∷ []) ∵ enter ! C Λ code.function (v ∷ []) _ $
         alloc1 ! (λ l₀. alloc1 ! (λ l₁. alloc0 ! $ params1 ! $ pass1 ! (init ! 0 refl (shr-slice-lawful 𝓤 H A W (named 0) κ u8 .typed s (v ∷ []) p .0)) $ pass0 ! $
-        assigns ! (agg ! (and-then ! (load ! (from ! (stop !)) (look ! 0 refl)) (and-then ! (lit ! tt) (no-more !)))) (from ! (stop !)) (init ! 2 refl (tt, (shr-slice-lawful 𝓤 H A W (named 0) κ u8 .typed s (v ∷ []) p .0 .1, (record { fits = lit< tt }, tt)))) $
+        assigns ! (agg ! (and-then ! (load ! (from ! (stop !)) (look ! 0 refl)) (and-then ! (lit ! tt) (no-more !)))) (from ! (stop !))
+        (init ! 2 refl (tt, (shr-slice-lawful 𝓤 H A W (named 0) κ u8 .typed s (v ∷ []) p .0 .1, (record { fits = lit< tt }, tt)))) $
         returns ! (look ! 2 refl) $ forget ! 0 refl $ forget ! 2 refl $ move ! (2 ∷ 3 ∷ []) $ free1 ! $ free1 ! $ free0 ! $ by ! exits))
 
 module _ {M : Type 1} (𝓤 : URA M) (H : Heap 𝓤) (A : Atoms 𝓤) (W : Given 𝓤 H A) (mem : Memory → SProp 𝓤) (run : Routine → Fun 𝓤) where
@@ -89,5 +90,6 @@ module _ {M : Type 1} (𝓤 : URA M) (H : Heap 𝓤) (A : Atoms 𝓤) (W : Given
 pub new-spec : {M : Type 1} → stated.statement M
 unfolding code.routine
 new-spec 𝓤 H 𝓜 𝓖 𝓡 =
-    enters 𝓤 H 𝓜 𝓖 𝓡 code.env new.ended stayed (goes-none-slice 𝓤 H (𝓖 .A) (givenOf 𝓤 H 𝓜 𝓖) 1 (0 ∷ []) tt (plain (λ _. u8)) yes, tt) (new.clauses 𝓤 H (𝓖 .A) (𝓜 .mem) (𝓡 .run)) #lent code.function (code.unfolded 𝓤 H 𝓜 𝓡)
+    enters 𝓤 H 𝓜 𝓖 𝓡 code.env new.ended stayed (goes-none-slice 𝓤 H (𝓖 .A) (givenOf 𝓤 H 𝓜 𝓖) 1 (0 ∷ []) tt (plain (λ _. u8)) yes, tt)
+    (new.clauses 𝓤 H (𝓖 .A) (𝓜 .mem) (𝓡 .run)) #lent code.function (code.unfolded 𝓤 H 𝓜 𝓡)
     (λ _. walks 𝓤 H (𝓖 .A) (givenOf 𝓤 H 𝓜 𝓖) (𝓜 .mem) (𝓡 .run) (tables 𝓤 H 𝓜 𝓡 code.env .C) (tables 𝓤 H 𝓜 𝓡 code.env .Λ))

@@ -83,7 +83,8 @@ module _ {M : Type 1} (𝓤 : URA M) (H : Heap 𝓤) (A : Atoms 𝓤) (at-mem : 
   abbrev StepAt : Contract 𝓤
   StepAt = tripleOf 𝓤 H A step.signature (step.spec 𝓤 H A at-mem run)
 
-module _ {M : Type 1} (𝓤 : URA M) (H : Heap 𝓤) (A : Atoms 𝓤) (W : Given 𝓤 H A) (at-mem : Memory → SProp 𝓤) (run : Routine → Fun 𝓤) (κ κ′ : Lft) (q q′ : Share) (bounds : AllOutlive 2 (lent.signature .outlives) (κ, (κ′, tt))) (b o : ℕ) (γ : GName) (h : RunReader) where
+module _ {M : Type 1} (𝓤 : URA M) (H : Heap 𝓤) (A : Atoms 𝓤) (W : Given 𝓤 H A) (at-mem : Memory → SProp 𝓤) (run : Routine → Fun 𝓤) (κ κ′ : Lft) (q q′ : Share)
+    (bounds : AllOutlive 2 (lent.signature .outlives) (κ, (κ′, tt))) (b o : ℕ) (γ : GName) (h : RunReader) where
   abbrev x : RefT RunReader × Unit {0}
   x = (record { ptr = (b, o); name = γ; now = h }, tt)
 
@@ -108,7 +109,8 @@ module _ {M : Type 1} (𝓤 : URA M) (H : Heap 𝓤) (A : Atoms 𝓤) (W : Given
       qed W (‵ (Own 𝓤 H A W (α κ′) h) ∷ (‵ (flft κ′ q′) ⊛ ‵ ftrue) ∷ []) ∵
       use1 W (‵ (ShrSlice (named 1) κ′ u8 .own (h .run) (sliceOf (h .run) ∷ [])) ⊛ ‵ (Own 𝓤 H A W (α κ′) h)) (lends-run 𝓤 H A W (α κ′) h) $ split ! $
       nothing ! $ owned ! usize (Is usize) (uint-makes 𝓤 H A W w64) (h .at) _ (refl, fits) $ fjoin ! $ move ! (1 ∷ 0 ∷ []) $ fjoin ! $ move ! (2 ∷ 0 ∷ []) $
-      use2 W (raw (StepAt 𝓤 H A at-mem run .pre to)) (qed W ((‵ (flft κ′ q′) ⊛ ‵ ftrue) ∷ ‵ (owns (ShrSlice (named 1) κ′ u8 ∷ usize ∷ []) (h .run, (h .at, tt)) (sliceOf (h .run) ∷ [], (vint w64 (h .at) ∷ [], tt))) ∷ []) ∵ join ! $ frame ! $ done !) $ frame ! $ done !
+      use2 W (raw (StepAt 𝓤 H A at-mem run .pre to)) (qed W ((‵ (flft κ′ q′) ⊛ ‵ ftrue)
+      ∷ ‵ (owns (ShrSlice (named 1) κ′ u8 ∷ usize ∷ []) (h .run, (h .at, tt)) (sliceOf (h .run) ∷ [], (vint w64 (h .at) ∷ [], tt))) ∷ []) ∵ join ! $ frame ! $ done !) $ frame ! $ done !
 
   said : (r : Step) → ent 𝓤 (ensured 𝓤 H A step.ended (step.clauses 𝓤 H A at-mem run) (κ′, tt) (h .run, (h .at, tt)) tt r) (fact 𝓤 (r ≡ result))
   said r = exE 𝓤 _ (λ ws. snd∗ 𝓤 (sem 𝓤 H A (lasts step.ended (κ′, tt) (h .run, (h .at, tt)) ws)) (fact 𝓤 (r ≡ result)))
@@ -126,7 +128,8 @@ module _ {M : Type 1} (𝓤 : URA M) (H : Heap 𝓤) (A : Atoms 𝓤) (W : Given
   exits : IsResult → ent 𝓤 (⋆ 𝓤 H A (‵ (fobs γ (B κ′ .coded .code h′)) ∷ ‵ (fbor κ (Body (mem (B κ′)) b o γ)) ∷ ‵ (flft κ q) ∷ (‵ (flft κ′ q′) ⊛ ‵ ftrue) ∷ [])) (Post (headOf result))
   exits is =
       qed W (‵ (fobs γ (B κ′ .coded .code h′)) ∷ ‵ (fbor κ (Body (mem (B κ′)) b o γ)) ∷ ‵ (flft κ q) ∷ (‵ (flft κ′ q′) ⊛ ‵ ftrue) ∷ []) ∵
-      suffices ! _ (ends-at 𝓤 H A lent.ended stayed (lent.clauses 𝓤 H A at-mem run) W (((κ, (κ′, tt)), (q, (q′, tt)), bounds, x, at), tt) (headOf result) (result .head) (h′, tt) (tt, tt)) $ says-both ! refl refl $
+      suffices ! _ (ends-at 𝓤 H A lent.ended stayed (lent.clauses 𝓤 H A at-mem run) W (((κ, (κ′, tt)), (q, (q′, tt)), bounds, x, at), tt) (headOf result) (result .head) (h′, tt) (tt, tt)) $
+      says-both ! refl refl $
       move ! (2 ∷ 3 ∷ []) $ join ! $ frame ! $ feqI ! (List Val) (vptr b o ∷ []) (vptr b o ∷ []) refl $ fjoin3 ! $ nothing ! $ move ! (1 ∷ 0 ∷ []) $ fjoin ! $
       owned ! N.the-row (Is N.the-row) (EL.makes N.the-type N′.the-plain 𝓤 H A) (result .head) _ (told is) $ move ! (1 ∷ 0 ∷ []) $ done !
 
@@ -136,25 +139,32 @@ module _ {M : Type 1} (𝓤 : URA M) (H : Heap 𝓤) (A : Atoms 𝓤) (W : Given
         qed W ((‵ (flft κ q) ⊛ ‵ (flft κ′ q′) ⊛ ‵ ftrue) ∷ ‵ (owns (MutRef (named 0) κ (B κ′) ∷ []) x at) ∷ []) ∵ enter ! C Λ code.function (vptr b o ∷ []) _ $
         alloc1 ! (λ l₀. alloc1 ! (λ l₁. alloc1 ! (λ l₂. alloc1 ! (λ l₃. alloc1 ! (λ l₄. alloc0 ! $ params1 ! $ pass1 ! (init ! 6 refl (tt, tt)) $ pass0 ! $
         move ! (11 ∷ []) $ fsplit ! $ fsplit3 ! $ drop ! $ move ! (13 ∷ []) $ split ! $ move ! (2 ∷ 3 ∷ 0 ∷ []) $
-        opens ! tt (B κ′) {h = h} b o (λ vs. spelt ! (B κ′) (Is (B κ′)) (shows 𝓤 H A (B κ′)) (LL.vals (T.the-type (α κ′)) (T′.the-laws (α κ′))) (LL.tells (T.the-type (α κ′)) (T′.the-laws (α κ′))) fullShare h vs b o $
+        opens ! tt (B κ′) {h = h} b o (λ vs. spelt ! (B κ′) (Is (B κ′)) (shows 𝓤 H A (B κ′)) (LL.vals (T.the-type (α κ′)) (T′.the-laws (α κ′)))
+        (LL.tells (T.the-type (α κ′)) (T′.the-laws (α κ′))) fullShare h vs b o $
         use1 W (‵ (fat fullShare (T′.mir erased) b o (mach h))) (W .laws .raw-at fullShare (T′.mir erased) b o (mach h)) $
         move ! (1 ∷ []) $ peeks ! (B κ′) (Is (B κ′)) (shows 𝓤 H A (B κ′)) h (mach h ∷ []) (λ is. move ! (1 ∷ 0 ∷ []) $
         -- [the reader's cell; what it owns; the open borrow; obs; auth; 'a's token; true; _4; …; _3; …; _2; …; _1; …; room for _0; …]
-        assigns ! (of-opd ! (load ! (from ! (hop ! (look ! 13 refl) (fld ! refl (stop !)))) (look-in ! 0 (sub ! 0 refl (whole !))))) (from ! (stop !)) (init ! 9 refl (tt, typed 𝓤 H A W (α κ′) h is .1 .0)) $
-        assigns ! (of-opd ! (load ! (from ! (hop ! (look ! 13 refl) (fld ! refl (stop !)))) (look-in ! 0 (sub ! 1 refl (whole !))))) (from ! (stop !)) (init ! 7 refl (tt, typed 𝓤 H A W (α κ′) h is .1 .1 .0)) $
+        assigns ! (of-opd ! (load ! (from ! (hop ! (look ! 13 refl) (fld ! refl (stop !)))) (look-in ! 0 (sub ! 0 refl (whole !))))) (from ! (stop !))
+        (init ! 9 refl (tt, typed 𝓤 H A W (α κ′) h is .1 .0)) $
+        assigns ! (of-opd ! (load ! (from ! (hop ! (look ! 13 refl) (fld ! refl (stop !)))) (look-in ! 0 (sub ! 1 refl (whole !))))) (from ! (stop !))
+        (init ! 7 refl (tt, typed 𝓤 H A W (α κ′) h is .1 .1 .0)) $
         move ! (1 ∷ 5 ∷ []) $ use2 W (raw (StepAt 𝓤 H A at-mem run .pre to) ⊛ ‵ (Own 𝓤 H A W (α κ′) h)) (apart (typed 𝓤 H A W (α κ′) h is .1 .1 .0 .fits)) $ split ! $
         -- [what the callee asks; what the reader owns; its cell; the open borrow; obs; auth; true; _4; …; _3; …; _2; …; _1; …; room for _0; …]
         calls-at ! fm (StepAt 𝓤 H A at-mem run) known to (and-then ! (load ! (from ! (stop !)) (look ! 9 refl)) (and-then ! (load ! (from ! (stop !)) (look ! 7 refl)) (no-more !))) (λ v.
         answered ! S.the-row (LL.val S.the-type S′.the-laws) (LL.tells S.the-type S′.the-laws) (‵ (flft κ′ q′) ⊛ ‵ ftrue) _ result said v (id⊢ 𝓤 _) (λ is′.
         -- [what the result owns; 'a's token; what the reader owns; its cell; the open borrow; obs; auth; true; _4; …; _3; …; _2; …; _1; …; room for _0; …]
         land ! (from ! (stop !)) (init ! 12 refl (LL.lawful S.the-type S′.the-laws 𝓤 H A W .typed result _ is′ .0)) $
-        assigns ! (of-opd ! (load ! (from ! (fld ! refl (stop !))) (look-in ! 12 (sub ! 1 refl (whole !))))) (from ! (hop ! (look ! 14 refl) (fld ! refl (stop !)))) (store-in ! 3 (sub ! 1 refl (whole !)) (tt, record { fits = fits-at is′ })) $
-        assigns ! (of-opd ! (load ! (from ! (fld ! refl (stop !))) (look-in ! 12 (sub ! 0 refl (whole !))))) (from ! (stop !)) (init ! 16 refl (EL.lawful N.the-type N′.the-laws 𝓤 H A W tt .typed (result .head) _ (told is′) .0)) $
+        assigns ! (of-opd ! (load ! (from ! (fld ! refl (stop !))) (look-in ! 12 (sub ! 1 refl (whole !))))) (from ! (hop ! (look ! 14 refl) (fld ! refl (stop !))))
+        (store-in ! 3 (sub ! 1 refl (whole !)) (tt, record { fits = fits-at is′ })) $
+        assigns ! (of-opd ! (load ! (from ! (fld ! refl (stop !))) (look-in ! 12 (sub ! 0 refl (whole !))))) (from ! (stop !))
+        (init ! 16 refl (EL.lawful N.the-type N′.the-laws 𝓤 H A W tt .typed (result .head) _ (told is′) .0)) $
         drop ! $ move ! (1 ∷ []) $ use1 W (‵ (B κ′ .own h′ (mach h′ ∷ []))) (placed 𝓤 H A W (α κ′) h (result .at) (fits-at is′)) $
-        move ! (2 ∷ 0 ∷ 3 ∷ 4 ∷ 5 ∷ []) $ use1 W (‵ (cellAt fullShare (B κ′ .mir) (mach h′ ∷ []) b o)) (W .laws .at-raw fullShare (T′.mir erased) b o (mach h′)) $ closes ! tt (B κ′) h′ (mach h′ ∷ []) b o $
+        move ! (2 ∷ 0 ∷ 3 ∷ 4 ∷ 5 ∷ []) $ use1 W (‵ (cellAt fullShare (B κ′ .mir) (mach h′ ∷ []) b o)) (W .laws .at-raw fullShare (T′.mir erased) b o (mach h′)) $
+        closes ! tt (B κ′) h′ (mach h′ ∷ []) b o $
         -- [obs; the borrow; the token; 'a's token; true; _4; …; _3; …; _2; …; _1; …; _0; …]
         returns ! (look ! 13 refl) $ forget ! 5 refl $ forget ! 7 refl $ forget ! 9 refl $ forget ! 11 refl $ forget ! 13 refl $
-        move ! (13 ∷ 14 ∷ []) $ free1 ! $ move ! (11 ∷ 12 ∷ []) $ free1 ! $ move ! (9 ∷ 10 ∷ []) $ free1 ! $ move ! (7 ∷ 8 ∷ []) $ free1 ! $ move ! (5 ∷ 6 ∷ []) $ free1 ! $ free0 ! $ keep ! (0 ∷ 1 ∷ 2 ∷ 3 ∷ []) $ by ! (exits is′))))))))))
+        move ! (13 ∷ 14 ∷ []) $ free1 ! $ move ! (11 ∷ 12 ∷ []) $ free1 ! $ move ! (9 ∷ 10 ∷ []) $ free1 ! $ move ! (7 ∷ 8 ∷ []) $ free1 ! $ move ! (5 ∷ 6 ∷ []) $ free1 ! $ free0 ! $
+        keep ! (0 ∷ 1 ∷ 2 ∷ 3 ∷ []) $ by ! (exits is′))))))))))
 
 module _ {M : Type 1} (𝓤 : URA M) (H : Heap 𝓤) (A : Atoms 𝓤) (W : Given 𝓤 H A) (at-mem : Memory → SProp 𝓤) (run : Routine → Fun 𝓤) where
   walks : (C : Calls 𝓤 H) (Λ : Loops 𝓤 H) → FmC 𝓤 H (W .laws) C → Triple 𝓤 (C #step-at) (StepAt 𝓤 H A at-mem run)

@@ -147,7 +147,8 @@ module _ {M : Type 1} (𝓤 : URA M) (H : Heap 𝓤) (A : Atoms 𝓤) (W : Given
     walk : ent 𝓤 (onEntry 𝓤 H A hand-out.signature tt tt tt tt) (WpFn 𝓤 H C Λ code.function [] Post)
     walk =
         qed W (‵ ftrue ∷ ‵ ftrue ∷ []) ∵ enter ! C Λ code.function [] _ $
-        alloc1 ! (λ l₀. alloc1 ! (λ l₁. alloc1 ! (λ l₂. alloc1 ! (λ l₃. alloc1 ! (λ l₄. alloc1 ! (λ l₅. alloc1 ! (λ l₆. alloc1 ! (λ l₇. alloc1 ! (λ l₈. alloc1 ! (λ l₉. alloc1 ! (λ l₁₀. alloc0 ! $ params1 ! $ pass0 ! $
+        alloc1 ! (λ l₀. alloc1 ! (λ l₁. alloc1 ! (λ l₂. alloc1 !
+        (λ l₃. alloc1 ! (λ l₄. alloc1 ! (λ l₅. alloc1 ! (λ l₆. alloc1 ! (λ l₇. alloc1 ! (λ l₈. alloc1 ! (λ l₉. alloc1 ! (λ l₁₀. alloc0 ! $ params1 ! $ pass0 ! $
         use0 W (raw (New 𝓤 H A mem run .pre ((tt, tt, tt, tt, tt), tt))) asks-new $
         calls-at ! fm (New 𝓤 H A mem run) known-new ((tt, tt, tt, tt, tt), tt) (no-more !) (λ v.
         received ! T.the-row mach (LL.tells T.the-type T′.the-laws) (‵ ftrue) (ensured 𝓤 H A new.ended (new.clauses 𝓤 H A mem run) tt tt tt) v (id⊢ 𝓤 _) (λ h is.
@@ -158,31 +159,41 @@ module _ {M : Type 1} (𝓤 : URA M) (H : Heap 𝓤) (A : Atoms 𝓤) (W : Given
         assigns ! (addr ! (from ! (stop !))) (from ! (stop !)) (init ! 7 refl (tt, tt)) $ lends ! tt h is l₁ (λ ν γ.
         use2 W (raw (Reset 𝓤 H A mem run .pre (to-reset ν l₁ γ h))) (asks-reset ν l₁ γ h) $
         calls-at ! fm (Reset 𝓤 H A mem run) known-reset (to-reset ν l₁ γ h) (and-then ! (load ! (from ! (stop !)) (look ! 8 refl)) (and-then ! (lit ! tt) (and-then ! (lit ! tt) (no-more !)))) (λ v₁.
-        received ! O.the-row done-so (EL.tells O.the-type O′.the-laws) (‵ (flft (ν ∷ []) fullShare) ⊛ ‵ ftrue) (ensured 𝓤 H A reset.ended (reset.clauses 𝓤 H A mem run) (ν ∷ [], tt) (at-local l₁ γ h, (4, (7, tt))) tt) v₁ (id⊢ 𝓤 _) (λ r is-r.
+        received ! O.the-row done-so (EL.tells O.the-type O′.the-laws) (‵ (flft (ν ∷ []) fullShare) ⊛ ‵ ftrue)
+        (ensured 𝓤 H A reset.ended (reset.clauses 𝓤 H A mem run) (ν ∷ [], tt) (at-local l₁ γ h, (4, (7, tt))) tt) v₁ (id⊢ 𝓤 _) (λ r is-r.
         land ! (from ! (stop !)) (init ! 11 refl (EL.lawful O.the-type O′.the-laws 𝓤 H A W tt .typed r _ is-r .0)) $ drop ! $ split ! $ move ! (1 ∷ []) $ drop ! $ comes-back ! tt l₁ (λ h₁ is₁.
         assigns ! (addr ! (from ! (stop !))) (from ! (stop !)) (init ! 5 refl (tt, tt)) $ lends ! tt h₁ is₁ l₁ (λ ν₁ γ₁.
         use2 W (raw (Try 𝓤 H A mem run .pre (to-try ν₁ l₁ γ₁ h₁))) (one ν₁ l₁ γ₁ h₁ (ByMut ν₁ l₁ γ₁ h₁)) $
         calls-at ! fm (Try 𝓤 H A mem run) known-try (to-try ν₁ l₁ γ₁ h₁) (and-then ! (load ! (from ! (stop !)) (look ! 6 refl)) (no-more !)) (λ v₂.
-        received ! N.the-row allocated (EL.tells N.the-type N′.the-laws) (‵ (flft (ν₁ ∷ []) fullShare) ⊛ ‵ ftrue) (ensured 𝓤 H A try.ended (try.clauses 𝓤 H A mem run) (ν₁ ∷ [], tt) (at-local l₁ γ₁ h₁, tt) tt) v₂ (id⊢ 𝓤 _) (λ first is-first.
+        received ! N.the-row allocated (EL.tells N.the-type N′.the-laws) (‵ (flft (ν₁ ∷ []) fullShare) ⊛ ‵ ftrue)
+        (ensured 𝓤 H A try.ended (try.clauses 𝓤 H A mem run) (ν₁ ∷ [], tt) (at-local l₁ γ₁ h₁, tt) tt) v₂ (id⊢ 𝓤 _) (λ first is-first.
         land ! (from ! (stop !)) (init ! 19 refl (EL.lawful N.the-type N′.the-laws 𝓤 H A W tt .typed first _ is-first .0)) $ drop ! $ split ! $ move ! (1 ∷ []) $ drop ! $ comes-back ! tt l₁ (λ h₂ is₂.
         assigns ! (addr ! (from ! (stop !))) (from ! (stop !)) (init ! 3 refl (tt, tt)) $ lends ! tt h₂ is₂ l₁ (λ ν₂ γ₂.
         use2 W (raw (Try 𝓤 H A mem run .pre (to-try ν₂ l₁ γ₂ h₂))) (one ν₂ l₁ γ₂ h₂ (ByMut ν₂ l₁ γ₂ h₂)) $
         calls-at ! fm (Try 𝓤 H A mem run) known-try (to-try ν₂ l₁ γ₂ h₂) (and-then ! (load ! (from ! (stop !)) (look ! 4 refl)) (no-more !)) (λ v₃.
-        received ! N.the-row allocated (EL.tells N.the-type N′.the-laws) (‵ (flft (ν₂ ∷ []) fullShare) ⊛ ‵ ftrue) (ensured 𝓤 H A try.ended (try.clauses 𝓤 H A mem run) (ν₂ ∷ [], tt) (at-local l₁ γ₂ h₂, tt) tt) v₃ (id⊢ 𝓤 _) (λ second is-second.
-        land ! (from ! (stop !)) (init ! 17 refl (EL.lawful N.the-type N′.the-laws 𝓤 H A W tt .typed second _ is-second .0)) $ drop ! $ split ! $ move ! (1 ∷ []) $ drop ! $ comes-back ! tt l₁ (λ h₃ is₃.
+        received ! N.the-row allocated (EL.tells N.the-type N′.the-laws) (‵ (flft (ν₂ ∷ []) fullShare) ⊛ ‵ ftrue)
+        (ensured 𝓤 H A try.ended (try.clauses 𝓤 H A mem run) (ν₂ ∷ [], tt) (at-local l₁ γ₂ h₂, tt) tt) v₃ (id⊢ 𝓤 _) (λ second is-second.
+        land ! (from ! (stop !)) (init ! 17 refl (EL.lawful N.the-type N′.the-laws 𝓤 H A W tt .typed second _ is-second .0)) $ drop ! $ split ! $ move ! (1 ∷ []) $ drop ! $
+        comes-back ! tt l₁ (λ h₃ is₃.
         assigns ! (addr ! (from ! (stop !))) (from ! (stop !)) (init ! 1 refl (tt, tt)) $ lends-shared ! tt h₃ is₃ l₁ (λ ν₃ γ₃.
         use2 W (raw (Left 𝓤 H A mem run .pre (to-left ν₃ l₁ γ₃ h₃))) (one ν₃ l₁ γ₃ h₃ (ByShr ν₃ l₁ γ₃ h₃)) $
         calls-at ! fm (Left 𝓤 H A mem run) known-left (to-left ν₃ l₁ γ₃ h₃) (and-then ! (load ! (from ! (stop !)) (look ! 2 refl)) (no-more !)) (λ v₄.
-        received ! Q.the-row counted (EL.tells Q.the-type Q′.the-laws) (‵ (flft (ν₃ ∷ []) fullShare) ⊛ ‵ ftrue) (ensured 𝓤 H A left.ended (left.clauses 𝓤 H A mem run) (ν₃ ∷ [], tt) (at-local l₁ γ₃ h₃, tt) tt) v₄ (id⊢ 𝓤 _) (λ n is-n.
+        received ! Q.the-row counted (EL.tells Q.the-type Q′.the-laws) (‵ (flft (ν₃ ∷ []) fullShare) ⊛ ‵ ftrue)
+        (ensured 𝓤 H A left.ended (left.clauses 𝓤 H A mem run) (ν₃ ∷ [], tt) (at-local l₁ γ₃ h₃, tt) tt) v₄ (id⊢ 𝓤 _) (λ n is-n.
         land ! (from ! (stop !)) (init ! 15 refl (EL.lawful Q.the-type Q′.the-laws 𝓤 H A W tt .typed n _ is-n .0)) $ drop ! $ split ! $ move ! (1 ∷ []) $ drop ! $ shared-back ! tt h₃ l₁ $
-        assigns ! (agg ! (and-then ! (load ! (from ! (stop !)) (look ! 17 refl)) (and-then ! (load ! (from ! (stop !)) (look ! 15 refl)) (and-then ! (load ! (from ! (stop !)) (look ! 13 refl)) (no-more !))))) (from ! (stop !))
+        assigns ! (agg ! (and-then ! (load ! (from ! (stop !)) (look ! 17 refl))
+        (and-then ! (load ! (from ! (stop !)) (look ! 15 refl)) (and-then ! (load ! (from ! (stop !)) (look ! 13 refl)) (no-more !))))) (from ! (stop !))
         (init ! 20 refl (LL.lawful U.the-type U′.the-laws 𝓤 H A W .typed (handed first second n) _ (made first second n is-first is-second is-n) .0)) $
-        returns ! (look ! 20 refl) $ forget ! 0 refl $ forget ! 1 refl $ forget ! 3 refl $ forget ! 5 refl $ forget ! 7 refl $ forget ! 9 refl $ forget ! 11 refl $ forget ! 13 refl $ forget ! 15 refl $ forget ! 17 refl $ forget ! 20 refl $
-        move ! (20 ∷ 21 ∷ []) $ free1 ! $ move ! (0 ∷ 19 ∷ []) $ free1 ! $ move ! (16 ∷ 17 ∷ []) $ free1 ! $ move ! (14 ∷ 15 ∷ []) $ free1 ! $ move ! (12 ∷ 13 ∷ []) $ free1 ! $ move ! (10 ∷ 11 ∷ []) $ free1 ! $
-        move ! (8 ∷ 9 ∷ []) $ free1 ! $ move ! (6 ∷ 7 ∷ []) $ free1 ! $ move ! (4 ∷ 5 ∷ []) $ free1 ! $ move ! (2 ∷ 3 ∷ []) $ free1 ! $ free1 ! $ free0 ! $ keep ! [] $ by ! (exits (handed first second n) (made first second n is-first is-second is-n))))))))))))))))))))))))))))))
+        returns ! (look ! 20 refl) $ forget ! 0 refl $ forget ! 1 refl $ forget ! 3 refl $ forget ! 5 refl $ forget ! 7 refl $ forget ! 9 refl $ forget ! 11 refl $ forget ! 13 refl $
+        forget ! 15 refl $ forget ! 17 refl $ forget ! 20 refl $
+        move ! (20 ∷ 21 ∷ []) $ free1 ! $ move ! (0 ∷ 19 ∷ []) $ free1 ! $ move ! (16 ∷ 17 ∷ []) $ free1 ! $ move ! (14 ∷ 15 ∷ []) $ free1 ! $ move ! (12 ∷ 13 ∷ []) $ free1 ! $
+        move ! (10 ∷ 11 ∷ []) $ free1 ! $
+        move ! (8 ∷ 9 ∷ []) $ free1 ! $ move ! (6 ∷ 7 ∷ []) $ free1 ! $ move ! (4 ∷ 5 ∷ []) $ free1 ! $ move ! (2 ∷ 3 ∷ []) $ free1 ! $ free1 ! $ free0 ! $ keep ! [] $
+        by ! (exits (handed first second n) (made first second n is-first is-second is-n))))))))))))))))))))))))))))))
 
 module _ {M : Type 1} (𝓤 : URA M) (H : Heap 𝓤) (A : Atoms 𝓤) (W : Given 𝓤 H A) (mem : Memory → SProp 𝓤) (run : Routine → Fun 𝓤) where
-  walks : (C : Calls 𝓤 H) (Λ : Loops 𝓤 H) → FmC 𝓤 H (W .laws) C → Triple 𝓤 (C #new) (New 𝓤 H A mem run) → Triple 𝓤 (C #reset) (Reset 𝓤 H A mem run) → Triple 𝓤 (C #try) (Try 𝓤 H A mem run) → Triple 𝓤 (C #left) (Left 𝓤 H A mem run)
+  walks : (C : Calls 𝓤 H) (Λ : Loops 𝓤 H) → FmC 𝓤 H (W .laws) C → Triple 𝓤 (C #new) (New 𝓤 H A mem run) → Triple 𝓤 (C #reset) (Reset 𝓤 H A mem run) → Triple 𝓤 (C #try) (Try 𝓤 H A mem run)
+      → Triple 𝓤 (C #left) (Left 𝓤 H A mem run)
       → Walks 𝓤 H A hand-out.ended stayed (WpFn 𝓤 H C Λ code.function) (hand-out.clauses 𝓤 H A mem run)
   walks C Λ fm known-new known-reset known-try known-left =
       walked 𝓤 H A hand-out.ended stayed (hand-out.clauses 𝓤 H A mem run) (WpFn 𝓤 H C Λ code.function) (λ κs. tt) (λ κs. tt)

@@ -36,15 +36,23 @@ returns-2 c =
 
 returns-3 : tie.Need-returns-3
 returns-3 c =
-    let a = c .before .before .before .before .before .before .before .before .args in
+    let at-len = c .before .before .before .before in
+    let at-chunk-at = at-len .before .before in
+    let start = at-chunk-at .before .before in
+    let a = start .args in
     let sum = c .before .crc32 .ensures ∙ ap published (c .before .before .payload-at .ensures) in
-    sym (checked-right (a .page .now) (a .at) (c .before .before .before .before .len .given .0 .0) (c .before .before .before .before .len .given .0 .1 .0) (c .before .before .before .before .len .given .0 .1 .1 .0) (sym (c .before .before .before .before .before .before .chunk-at .ensures) ∙ c .before .before .before .before .len .given .1) (sym sum ∙ c .if1 .taken))
+    sym (checked-right (a .page .now) (a .at) (at-len .len .given .0 .0) (at-len .len .given .0 .1 .0) (at-len .len .given .0 .1 .1 .0)
+    (sym (at-chunk-at .chunk-at .ensures) ∙ at-len .len .given .1) (sym sum ∙ c .if1 .taken))
 
 returns-4 : tie.Need-returns-4
 returns-4 c =
-    let a = c .before .before .before .before .before .before .before .before .args in
+    let at-len = c .before .before .before .before in
+    let at-chunk-at = at-len .before .before in
+    let start = at-chunk-at .before .before in
+    let a = start .args in
     let sum = c .before .crc32 .ensures ∙ ap published (c .before .before .payload-at .ensures) in
-    sym (checked-wrong (a .page .now) (a .at) (c .before .before .before .before .len .given .0 .0) (c .before .before .before .before .len .given .0 .1 .0) (c .before .before .before .before .len .given .0 .1 .1 .0) (sym (c .before .before .before .before .before .before .chunk-at .ensures) ∙ c .before .before .before .before .len .given .1) (λ q. c .if1 .left (sum ∙ q)))
+    sym (checked-wrong (a .page .now) (a .at) (at-len .len .given .0 .0) (at-len .len .given .0 .1 .0) (at-len .len .given .0 .1 .1 .0)
+    (sym (at-chunk-at .chunk-at .ensures) ∙ at-len .len .given .1) (λ q. c .if1 .left (sum ∙ q)))
 
 pub checked-at-spec : {M : Type 1} → statement M
 checked-at-spec =

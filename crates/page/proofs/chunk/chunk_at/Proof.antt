@@ -47,10 +47,13 @@ add-end-2 c = search needs
 
 returns-4 : tie.Need-returns-4
 returns-4 c =
-    let a = c .before .before .before .before .before .before .before .args in
+    let at-if2 = c .before .before .before in
+    let at-get16 = at-if2 .before in
+    let start = at-get16 .before .before .before in
+    let a = start .args in
     let room : a .at + 8 ≤ 4096 = omega arith in
     let len = c .before .before .get162 .ensures in
-    sym (chunk-over (a .page .now) (a .at) room (sym (c .before .before .before .before .get16 .ensures) ∙ c .before .before .before .if2 .left) (rw len at (c .before .if3 .left)) (rw len at (c .if4 .taken)))
+    sym (chunk-over (a .page .now) (a .at) room (sym (at-get16 .get16 .ensures) ∙ at-if2 .if2 .left) (rw len at (c .before .if3 .left)) (rw len at (c .if4 .taken)))
 
 add-get32 : tie.Need-add-get32
 add-get32 c = search needs
@@ -66,11 +69,16 @@ align-up-requires c κs = search needs
 
 returns-5 : tie.Need-returns-5
 returns-5 c =
-    let a = c .before .before .before .before .before .before .before .before .before .args in
+    let at-if3 = c .before .before .before in
+    let at-get162 = at-if3 .before in
+    let at-if2 = at-get162 .before in
+    let at-get16 = at-if2 .before in
+    let start = at-get16 .before .before .before in
+    let a = start .args in
     let room : a .at + 8 ≤ 4096 = omega arith in
-    let len = c .before .before .before .before .get162 .ensures in
+    let len = at-get162 .get162 .ensures in
     rw (c .align-up .ensures, c .before .get32 .ensures, len)
-    (sym (chunk-whole (a .page .now) (a .at) room (sym (c .before .before .before .before .before .before .get16 .ensures) ∙ c .before .before .before .before .before .if2 .left) (rw len at (c .before .before .before .if3 .left)) (rw len at (c .before .before .if4 .left))))
+    (sym (chunk-whole (a .page .now) (a .at) room (sym (at-get16 .get16 .ensures) ∙ at-if2 .if2 .left) (rw len at (at-if3 .if3 .left)) (rw len at (c .before .before .if4 .left))))
 
 pub chunk-at-spec : {M : Type 1} → statement M
 chunk-at-spec =

@@ -28,8 +28,13 @@ crc32-requires c κs = search needs
 
 returns : tie.Need-returns
 returns c =
-    let a = c .before .before .before .before .before .before .before .before .args in
-    let known = rw (c .before .before .before .before .get322 .ensures, c .before .before .before .before .before .before .get32 .ensures, c .before .before .before .before .before .index .ensures) at (c .before .before .before .if1 .taken) in
+    let at-if1 = c .before .before .before in
+    let at-get322 = at-if1 .before in
+    let at-index = at-get322 .before in
+    let at-get32 = at-index .before in
+    let start = at-get32 .before .before in
+    let a = start .args in
+    let known = rw (at-get322 .get322 .ensures, at-get32 .get32 .ensures, at-index .index .ensures) at (at-if1 .if1 .taken) in
     rw (c .before .before .get323 .ensures, c .crc32 .ensures, c .before .header-of .ensures) (sym (header-known (a .page .now) (a .magic) (a .id .0) (a .h) known))
 
 returns-2 : tie.Need-returns-2

@@ -44,7 +44,8 @@ enum-known-next c = search needs
 
 -- what was found where the walk goes on
 found : (c : tie.After-known-told Inv-loop μ-loop)
-    → chunkAt (c .before .before .before .before .before .before .args .page .now) (c .before .before .before .before .loop .at) ≡ Chunk (c .before .next .given .0 .0) (c .before .next .given .0 .1 .0) (c .before .next .given .0 .1 .1 .0)
+    → chunkAt (c .before .before .before .before .before .before .args .page .now) (c .before .before .before .before .loop .at)
+    ≡ Chunk (c .before .next .given .0 .0) (c .before .next .given .0 .1 .0) (c .before .next .given .0 .1 .1 .0)
 found c = sym (c .before .before .before .chunk-at .ensures) ∙ c .before .next .given .1
 
 loop-less : tie.Need-loop-less Inv-loop μ-loop
@@ -54,8 +55,10 @@ loop-less c =
 
 loop-again : tie.Need-loop-again Inv-loop μ-loop
 loop-again c =
-    let l = c .before .before .before .before in
-    sym (ap (λ (w : Walked). w .ending) (walk-chunk (l .before .before .args .page .now) (l .loop .at) (c .before .next .given .0 .0) (c .before .next .given .0 .1 .0) (c .before .next .given .0 .1 .1 .0) (found c))) ∙ l .loop .inv
+    let at-place = c .before .before .before .before in
+    let l = at-place in
+    sym (ap (λ (w : Walked). w .ending) (walk-chunk (l .before .before .args .page .now) (l .loop .at) (c .before .next .given .0 .0) (c .before .next .given .0 .1 .0)
+    (c .before .next .given .0 .1 .1 .0) (found c))) ∙ l .loop .inv
 
 pub walk-end-spec : {M : Type 1} → statement M
 walk-end-spec =

@@ -18,8 +18,11 @@ enum-known-no c = search needs
 returns : tie.Need-returns
 unfolding openVerdict
 returns c =
-    let a = c .before .before .before .before .args in
-    sym (asked-no (flashFine (a .bytes)) BadFlash (c .before .no .given .0 .0) (asking (headerFine (a .h)) BadHeader (pageVerdict (a .bytes) (a .page))) (sym (c .before .before .before .check-flash .ensures) ∙ c .before .no .given .1))
+    let at-check-flash = c .before .before .before in
+    let start = at-check-flash .before in
+    let a = start .args in
+    sym (asked-no (flashFine (a .bytes)) BadFlash (c .before .no .given .0 .0) (asking (headerFine (a .h)) BadHeader (pageVerdict (a .bytes) (a .page)))
+    (sym (at-check-flash .check-flash .ensures) ∙ c .before .no .given .1))
 
 enum-told : tie.Need-enum-told
 enum-told c = search needs
@@ -33,9 +36,14 @@ enum-known-no-2 c = search needs
 returns-2 : tie.Need-returns-2
 unfolding openVerdict
 returns-2 c =
-    let a = c .before .before .before .before .before .before .before .args in
-    sym (asked-yes (flashFine (a .bytes)) BadFlash (asking (headerFine (a .h)) BadHeader (pageVerdict (a .bytes) (a .page))) (sym (c .before .before .before .before .before .before .check-flash .ensures) ∙ c .before .before .before .before .enum-told .given .1)
-    ∙ asked-no (headerFine (a .h)) BadHeader (c .before .no2 .given .0 .0) (pageVerdict (a .bytes) (a .page)) (sym (c .before .before .before .check-header .ensures) ∙ c .before .no2 .given .1))
+    let at-check-header = c .before .before .before in
+    let at-enum-told = at-check-header .before in
+    let at-check-flash = at-enum-told .before .before in
+    let start = at-check-flash .before in
+    let a = start .args in
+    sym (asked-yes (flashFine (a .bytes)) BadFlash (asking (headerFine (a .h)) BadHeader (pageVerdict (a .bytes) (a .page)))
+    (sym (at-check-flash .check-flash .ensures) ∙ at-enum-told .enum-told .given .1)
+    ∙ asked-no (headerFine (a .h)) BadHeader (c .before .no2 .given .0 .0) (pageVerdict (a .bytes) (a .page)) (sym (at-check-header .check-header .ensures) ∙ c .before .no2 .given .1))
 
 enum-told-2 : tie.Need-enum-told-2
 enum-told-2 c = search needs
@@ -46,10 +54,15 @@ check-page-requires c κs = search needs
 returns-3 : tie.Need-returns-3
 unfolding openVerdict
 returns-3 c =
-    let a = c .before .before .before .before .before .before .before .args in
+    let at-check-header = c .before .before .before in
+    let at-enum-told = at-check-header .before in
+    let at-check-flash = at-enum-told .before .before in
+    let start = at-check-flash .before in
+    let a = start .args in
     c .check-page .ensures
-    ∙ sym (asked-yes (flashFine (a .bytes)) BadFlash (asking (headerFine (a .h)) BadHeader (pageVerdict (a .bytes) (a .page))) (sym (c .before .before .before .before .before .before .check-flash .ensures) ∙ c .before .before .before .before .enum-told .given .1)
-    ∙ asked-yes (headerFine (a .h)) BadHeader (pageVerdict (a .bytes) (a .page)) (sym (c .before .before .before .check-header .ensures) ∙ c .before .enum-told2 .given .1))
+    ∙ sym (asked-yes (flashFine (a .bytes)) BadFlash (asking (headerFine (a .h)) BadHeader (pageVerdict (a .bytes) (a .page)))
+    (sym (at-check-flash .check-flash .ensures) ∙ at-enum-told .enum-told .given .1)
+    ∙ asked-yes (headerFine (a .h)) BadHeader (pageVerdict (a .bytes) (a .page)) (sym (at-check-header .check-header .ensures) ∙ c .before .enum-told2 .given .1))
 
 pub check-open-spec : {M : Type 1} → statement M
 check-open-spec =

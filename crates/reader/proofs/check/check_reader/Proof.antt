@@ -17,8 +17,11 @@ enum-known-no c = search needs
 returns : tie.Need-returns
 unfolding readerVerdict
 returns c =
-    let a = c .before .before .before .before .args in
-    sym (asked-no (flashFine (a .bytes)) BadFlash (c .before .no .given .0 .0) (asking (inRange (a .r)) BadState (pageVerdict (a .bytes) (a .r .page))) (sym (c .before .before .before .check-flash .ensures) ∙ c .before .no .given .1))
+    let at-check-flash = c .before .before .before in
+    let start = at-check-flash .before in
+    let a = start .args in
+    sym (asked-no (flashFine (a .bytes)) BadFlash (c .before .no .given .0 .0) (asking (inRange (a .r)) BadState (pageVerdict (a .bytes) (a .r .page)))
+    (sym (at-check-flash .check-flash .ensures) ∙ c .before .no .given .1))
 
 enum-told : tie.Need-enum-told
 enum-told c = search needs
@@ -32,9 +35,14 @@ enum-known-no-2 c = search needs
 returns-2 : tie.Need-returns-2
 unfolding readerVerdict
 returns-2 c =
-    let a = c .before .before .before .before .before .before .before .args in
-    sym (asked-yes (flashFine (a .bytes)) BadFlash (asking (inRange (a .r)) BadState (pageVerdict (a .bytes) (a .r .page))) (sym (c .before .before .before .before .before .before .check-flash .ensures) ∙ c .before .before .before .before .enum-told .given .1)
-    ∙ asked-no (inRange (a .r)) BadState (c .before .no2 .given .0 .0) (pageVerdict (a .bytes) (a .r .page)) (sym (c .before .before .before .check-state .ensures) ∙ c .before .no2 .given .1))
+    let at-check-state = c .before .before .before in
+    let at-enum-told = at-check-state .before in
+    let at-check-flash = at-enum-told .before .before in
+    let start = at-check-flash .before in
+    let a = start .args in
+    sym (asked-yes (flashFine (a .bytes)) BadFlash (asking (inRange (a .r)) BadState (pageVerdict (a .bytes) (a .r .page)))
+    (sym (at-check-flash .check-flash .ensures) ∙ at-enum-told .enum-told .given .1)
+    ∙ asked-no (inRange (a .r)) BadState (c .before .no2 .given .0 .0) (pageVerdict (a .bytes) (a .r .page)) (sym (at-check-state .check-state .ensures) ∙ c .before .no2 .given .1))
 
 enum-told-2 : tie.Need-enum-told-2
 enum-told-2 c = search needs
@@ -45,10 +53,15 @@ check-page-requires c κs = search needs
 returns-3 : tie.Need-returns-3
 unfolding readerVerdict
 returns-3 c =
-    let a = c .before .before .before .before .before .before .before .before .args in
+    let at-check-state = c .before .before .before .before in
+    let at-enum-told = at-check-state .before in
+    let at-check-flash = at-enum-told .before .before in
+    let start = at-check-flash .before in
+    let a = start .args in
     c .check-page .ensures
-    ∙ sym (asked-yes (flashFine (a .bytes)) BadFlash (asking (inRange (a .r)) BadState (pageVerdict (a .bytes) (a .r .page))) (sym (c .before .before .before .before .before .before .before .check-flash .ensures) ∙ c .before .before .before .before .before .enum-told .given .1)
-    ∙ asked-yes (inRange (a .r)) BadState (pageVerdict (a .bytes) (a .r .page)) (sym (c .before .before .before .before .check-state .ensures) ∙ c .before .before .enum-told2 .given .1))
+    ∙ sym (asked-yes (flashFine (a .bytes)) BadFlash (asking (inRange (a .r)) BadState (pageVerdict (a .bytes) (a .r .page)))
+    (sym (at-check-flash .check-flash .ensures) ∙ at-enum-told .enum-told .given .1)
+    ∙ asked-yes (inRange (a .r)) BadState (pageVerdict (a .bytes) (a .r .page)) (sym (at-check-state .check-state .ensures) ∙ c .before .before .enum-told2 .given .1))
 
 pub check-reader-spec : {M : Type 1} → statement M
 check-reader-spec =

@@ -43,10 +43,17 @@ same-length c = search needs
 
 returns-3 : tie.Need-returns-3
 returns-3 c =
-    let a = c .before .before .before .before .before .before .before .before .before .before .before .before .before .args in
-    let k = header-right (a .flash .now) (a .magic) (a .page) (a .header .now) (sym (c .before .before .before .before .before .before .before .before .before .before .check-open .ensures) ∙ c .before .before .before .before .before .before .before .before .enum-told .given .1)
-    (rw (c .before .before .before .before .before .before .before .page-of .ensures) at (sym (c .before .before .before .before .before .before .page-header-fine .ensures) ∙ not-false _ (c .before .before .before .before .before .if1 .left))) in
-    (k .0, c .before .before .put .ensures ∙ rw (c .before .before .before .header-of .ensures, c .before .before .before .before .before .before .before .page-of .ensures) (k .1))
+    let at-header-of = c .before .before .before in
+    let at-if1 = at-header-of .before .before in
+    let at-page-header-fine = at-if1 .before in
+    let at-page-of = at-page-header-fine .before in
+    let at-enum-told = at-page-of .before in
+    let at-check-open = at-enum-told .before .before in
+    let start = at-check-open .before .before .before in
+    let a = start .args in
+    let k = header-right (a .flash .now) (a .magic) (a .page) (a .header .now) (sym (at-check-open .check-open .ensures) ∙ at-enum-told .enum-told .given .1)
+    (rw (at-page-of .page-of .ensures) at (sym (at-page-header-fine .page-header-fine .ensures) ∙ not-false _ (at-if1 .if1 .left))) in
+    (k .0, c .before .before .put .ensures ∙ rw (at-header-of .header-of .ensures, at-page-of .page-of .ensures) (k .1))
 
 pub read-header-spec : {M : Type 1} → statement M
 read-header-spec =

@@ -76,22 +76,34 @@ sub-want c = search needs
 
 -- where the loop goes on
 arrived : (c : tie.After-known-told Inv-loop μ-loop)
-    → moved (c .before .before .before .before .before .before .before .before .before .before .args .page .now) (past (c .before .before .before .before .before .before .before .before .loop .r) (length (restOf (c .before .before .before .before .before .before .before .before .before .before .args .page .now) (c .before .before .before .before .before .before .before .before .loop .r)))) ≡ At (c .before .s .given .0 .0)
-arrived c = rw (c .before .before .before .before .step-past2 .ensures, c .before .before .before .before .before .before .rest-of .ensures) at (sym (c .before .before .before .next-chunk .ensures) ∙ c .before .s .given .1)
+    → let at-loop = c .before .before .before .before .before .before .before .before in
+    let page = at-loop .before .before .args .page .now in
+    moved page (past (at-loop .loop .r) (length (restOf page (at-loop .loop .r)))) ≡ At (c .before .s .given .0 .0)
+arrived c =
+    let at-next-chunk = c .before .before .before in
+    let at-step-past2 = at-next-chunk .before in
+    let at-rest-of = at-step-past2 .before .before in
+    rw (at-step-past2 .step-past2 .ensures, at-rest-of .rest-of .ensures) at (sym (at-next-chunk .next-chunk .ensures) ∙ c .before .s .given .1)
 
 loop-less : tie.Need-loop-less Inv-loop μ-loop
 loop-less c =
-    let l = c .before .before .before .before .before .before .before .before in
+    let at-if1 = c .before .before .before .before .before .before .before in
+    let at-place = at-if1 .before in
+    let l = at-place in
     let page = l .before .before .args .page .now in
-    omega (arith, l .loop .inv .0 (c .before .before .before .before .before .before .before .if1 .left) .0, moved-up page (past (l .loop .r) (length (restOf page (l .loop .r)))) (c .before .s .given .0 .0) (arrived c))
+    omega (arith, l .loop .inv .0 (at-if1 .if1 .left) .0, moved-up page (past (l .loop .r) (length (restOf page (l .loop .r)))) (c .before .s .given .0 .0) (arrived c))
 
 loop-again : tie.Need-loop-again Inv-loop μ-loop
 loop-again c =
-    let l = c .before .before .before .before .before .before .before .before in
+    let at-if2 = c .before .before .before .before .before in
+    let at-rest-of = at-if2 .before in
+    let at-if1 = at-rest-of .before in
+    let at-place = at-if1 .before in
+    let l = at-place in
     let page = l .before .before .args .page .now in
-    let more = rw (c .before .before .before .before .before .before .rest-of .ensures) at (c .before .before .before .before .before .if2 .left) in (
+    let more = rw (at-rest-of .rest-of .ensures) at (at-if2 .if2 .left) in (
       moved-whole page (past (l .loop .r) (length (restOf page (l .loop .r)))) (c .before .s .given .0 .0) (arrived c),
-      rw (c .before .before .before .before .before .before .rest-of .ensures) (sym (skip-on page (l .loop .want) (l .loop .r) (c .before .s .given .0 .0) (c .before .before .before .before .before .before .before .if1 .left) more (arrived c)) ∙ l .loop .inv .1),
+      rw (at-rest-of .rest-of .ensures) (sym (skip-on page (l .loop .want) (l .loop .r) (c .before .s .given .0 .0) (at-if1 .if1 .left) more (arrived c)) ∙ l .loop .inv .1),
     )
 
 pub pass-spec : {M : Type 1} → statement M

@@ -50,9 +50,12 @@ part-of-requires c κs = search needs
 
 returns : tie.Need-returns Inv-loop μ-loop
 returns c =
-    let l = c .before .before .before .before .loop in
-    let a = c .before .before .before .before .before .before .args in
-    c .part-of .ensures ∙ rw (c .before .less .ensures, c .before .before .end-from2 .ensures) (word-found (a .line .now) (l .at) (a .k) (l .counter) (c .before .before .before .loop-test .left) ∙ l .inv)
+    let at-loop-test = c .before .before .before in
+    let at-loop = at-loop-test .before in
+    let start = at-loop .before .before in
+    let l = at-loop .loop in
+    let a = start .args in
+    c .part-of .ensures ∙ rw (c .before .less .ensures, c .before .before .end-from2 .ensures) (word-found (a .line .now) (l .at) (a .k) (l .counter) (at-loop-test .loop-test .left) ∙ l .inv)
 
 pub word-at-spec : {M : Type 1} → statement M
 word-at-spec =

@@ -23,7 +23,10 @@ page-of-requires : tie.Need-page-of-requires
 page-of-requires c κs = search needs
 
 load-requires : tie.Need-load-requires
-load-requires c κs = let a = c .before .before .before .before .before .before .args in known-whole (a .self) (a .flash .now) (sym (c .before .before .before .before .check-reader .ensures) ∙ c .before .before .enum-told .given .1)
+load-requires c κs =
+    let at-check-reader = c .before .before .before .before in
+    let start = at-check-reader .before .before in
+    let a = start .args in known-whole (a .self) (a .flash .now) (sym (at-check-reader .check-reader .ensures) ∙ c .before .before .enum-told .given .1)
 
 enum-known-r : tie.Need-enum-known-r
 enum-known-r c = search needs
@@ -33,21 +36,35 @@ enum-told-2 c = search needs
 
 returns-2 : tie.Need-returns-2
 returns-2 c =
-    let a = c .before .before .before .before .before .before .before .before .before .args in
-    eof-bad (a .self) (a .flash .now) (sym (c .before .before .before .before .before .before .before .check-reader .ensures) ∙ c .before .before .before .before .before .enum-told .given .1)
-    (rw (c .before .before .before .page-of .ensures) at (sym (c .before .before .load .ensures) ∙ c .enum-told2 .given .1))
+    let at-page-of = c .before .before .before in
+    let at-enum-told = at-page-of .before .before in
+    let at-check-reader = at-enum-told .before .before in
+    let start = at-check-reader .before .before in
+    let a = start .args in
+    eof-bad (a .self) (a .flash .now) (sym (at-check-reader .check-reader .ensures) ∙ at-enum-told .enum-told .given .1)
+    (rw (at-page-of .page-of .ensures) at (sym (c .before .before .load .ensures) ∙ c .enum-told2 .given .1))
 
 returns-3 : tie.Need-returns-3
 returns-3 c =
-    let a = c .before .before .before .before .before .before .before .before .before .before .before .args in
-    eof-end (a .self) (a .flash .now) (sym (c .before .before .before .before .before .before .before .before .before .check-reader .ensures) ∙ c .before .before .before .before .before .before .before .enum-told .given .1) (c .before .before .r .given .0 .0)
-    (rw (c .before .before .before .before .before .page-of .ensures) at (sym (c .before .before .before .before .load .ensures) ∙ c .before .before .r .given .1)) (c .if1 .taken)
+    let at-load = c .before .before .before .before in
+    let at-page-of = at-load .before in
+    let at-enum-told = at-page-of .before .before in
+    let at-check-reader = at-enum-told .before .before in
+    let start = at-check-reader .before .before in
+    let a = start .args in
+    eof-end (a .self) (a .flash .now) (sym (at-check-reader .check-reader .ensures) ∙ at-enum-told .enum-told .given .1) (c .before .before .r .given .0 .0)
+    (rw (at-page-of .page-of .ensures) at (sym (at-load .load .ensures) ∙ c .before .before .r .given .1)) (c .if1 .taken)
 
 returns-4 : tie.Need-returns-4
 returns-4 c =
-    let a = c .before .before .before .before .before .before .before .before .before .before .before .args in
-    eof-more (a .self) (a .flash .now) (sym (c .before .before .before .before .before .before .before .before .before .check-reader .ensures) ∙ c .before .before .before .before .before .before .before .enum-told .given .1) (c .before .before .r .given .0 .0)
-    (rw (c .before .before .before .before .before .page-of .ensures) at (sym (c .before .before .before .before .load .ensures) ∙ c .before .before .r .given .1)) (c .if1 .left)
+    let at-load = c .before .before .before .before in
+    let at-page-of = at-load .before in
+    let at-enum-told = at-page-of .before .before in
+    let at-check-reader = at-enum-told .before .before in
+    let start = at-check-reader .before .before in
+    let a = start .args in
+    eof-more (a .self) (a .flash .now) (sym (at-check-reader .check-reader .ensures) ∙ at-enum-told .enum-told .given .1) (c .before .before .r .given .0 .0)
+    (rw (at-page-of .page-of .ensures) at (sym (at-load .load .ensures) ∙ c .before .before .r .given .1)) (c .if1 .left)
 
 pub is-at-eof-spec : {M : Type 1} → statement M
 is-at-eof-spec =

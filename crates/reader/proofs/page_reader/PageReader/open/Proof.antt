@@ -49,10 +49,17 @@ enum-told-2 c = search needs
 
 returns-3 : tie.Need-returns-3
 returns-3 c =
-    let a = c .before .before .before .before .before .before .before .before .before .before .before .before .args in
-    open-bad (a .flash .now) (a .magic) (a .page) (a .header .now) (sym (c .before .before .before .before .before .before .before .before .before .check-open .ensures) ∙ c .before .before .before .before .before .before .before .enum-told .given .1)
-    (rw (c .before .before .before .before .before .before .page-of .ensures) at (sym (c .before .before .before .before .before .page-header-fine .ensures) ∙ not-false _ (c .before .before .before .before .if1 .left))) (a .self)
-    (rw (c .before .before .before .unread-of .ensures, c .before .before .before .before .before .before .page-of .ensures) at (sym (c .before .before .arrive .ensures) ∙ c .enum-told2 .given .1))
+    let at-unread-of = c .before .before .before in
+    let at-if1 = at-unread-of .before in
+    let at-page-header-fine = at-if1 .before in
+    let at-page-of = at-page-header-fine .before in
+    let at-enum-told = at-page-of .before in
+    let at-check-open = at-enum-told .before .before in
+    let start = at-check-open .before .before .before in
+    let a = start .args in
+    open-bad (a .flash .now) (a .magic) (a .page) (a .header .now) (sym (at-check-open .check-open .ensures) ∙ at-enum-told .enum-told .given .1)
+    (rw (at-page-of .page-of .ensures) at (sym (at-page-header-fine .page-header-fine .ensures) ∙ not-false _ (at-if1 .if1 .left))) (a .self)
+    (rw (at-unread-of .unread-of .ensures, at-page-of .page-of .ensures) at (sym (c .before .before .arrive .ensures) ∙ c .enum-told2 .given .1))
 
 header-of-requires : tie.Need-header-of-requires
 header-of-requires c κs = search needs
@@ -65,11 +72,21 @@ same-length c = search needs
 
 returns-4 : tie.Need-returns-4
 returns-4 c =
-    let a = c .before .before .before .before .before .before .before .before .before .before .before .before .before .before .before .before .before .before .args in
-    let k = open-at (a .flash .now) (a .magic) (a .page) (a .header .now) (sym (c .before .before .before .before .before .before .before .before .before .before .before .before .before .before .before .check-open .ensures) ∙ c .before .before .before .before .before .before .before .before .before .before .before .before .before .enum-told .given .1)
-    (rw (c .before .before .before .before .before .before .before .before .before .before .before .before .page-of .ensures) at (sym (c .before .before .before .before .before .before .before .before .before .before .before .page-header-fine .ensures) ∙ not-false _ (c .before .before .before .before .before .before .before .before .before .before .if1 .left))) (a .self) (c .before .before .before .before .before .before .r .given .0 .0)
-    (rw (c .before .before .before .before .before .before .before .before .before .unread-of .ensures, c .before .before .before .before .before .before .before .before .before .before .before .before .page-of .ensures) at (sym (c .before .before .before .before .before .before .before .before .arrive .ensures) ∙ c .before .before .before .before .before .before .r .given .1)) in
-    (k .0, c .before .before .put .ensures ∙ rw (c .before .before .before .header-of .ensures, c .before .before .before .before .before .before .before .before .before .before .before .before .page-of .ensures) (k .1))
+    let at-header-of = c .before .before .before in
+    let at-r = at-header-of .before .before .before in
+    let at-arrive = at-r .before .before in
+    let at-unread-of = at-arrive .before in
+    let at-if1 = at-unread-of .before in
+    let at-page-header-fine = at-if1 .before in
+    let at-page-of = at-page-header-fine .before in
+    let at-enum-told = at-page-of .before in
+    let at-check-open = at-enum-told .before .before in
+    let start = at-check-open .before .before .before in
+    let a = start .args in
+    let k = open-at (a .flash .now) (a .magic) (a .page) (a .header .now) (sym (at-check-open .check-open .ensures) ∙ at-enum-told .enum-told .given .1)
+    (rw (at-page-of .page-of .ensures) at (sym (at-page-header-fine .page-header-fine .ensures) ∙ not-false _ (at-if1 .if1 .left))) (a .self) (at-r .r .given .0 .0)
+    (rw (at-unread-of .unread-of .ensures, at-page-of .page-of .ensures) at (sym (at-arrive .arrive .ensures) ∙ at-r .r .given .1)) in
+    (k .0, c .before .before .put .ensures ∙ rw (at-header-of .header-of .ensures, at-page-of .page-of .ensures) (k .1))
 
 pub open-spec : {M : Type 1} → statement M
 open-spec =

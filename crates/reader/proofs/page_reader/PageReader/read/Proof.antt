@@ -25,7 +25,10 @@ page-of-requires : tie.Need-page-of-requires
 page-of-requires c κs = search needs
 
 load-requires : tie.Need-load-requires
-load-requires c κs = let a = c .before .before .before .before .before .before .before .args in known-whole (a .self) (a .flash .now) (sym (c .before .before .before .before .check-reader .ensures) ∙ c .before .before .enum-told .given .1)
+load-requires c κs =
+    let at-check-reader = c .before .before .before .before in
+    let start = at-check-reader .before .before .before in
+    let a = start .args in known-whole (a .self) (a .flash .now) (sym (at-check-reader .check-reader .ensures) ∙ c .before .before .enum-told .given .1)
 
 enum-known-r : tie.Need-enum-known-r
 enum-known-r c = search needs
@@ -35,9 +38,13 @@ enum-told-2 c = search needs
 
 returns-2 : tie.Need-returns-2
 returns-2 c =
-    let a = c .before .before .before .before .before .before .before .before .before .before .args in
-    read-bad (a .self) (a .flash .now) (sym (c .before .before .before .before .before .before .before .check-reader .ensures) ∙ c .before .before .before .before .before .enum-told .given .1) (a .buffer .now)
-    (rw (c .before .before .before .page-of .ensures) at (sym (c .before .before .load .ensures) ∙ c .enum-told2 .given .1))
+    let at-page-of = c .before .before .before in
+    let at-enum-told = at-page-of .before .before in
+    let at-check-reader = at-enum-told .before .before in
+    let start = at-check-reader .before .before .before in
+    let a = start .args in
+    read-bad (a .self) (a .flash .now) (sym (at-check-reader .check-reader .ensures) ∙ at-enum-told .enum-told .given .1) (a .buffer .now)
+    (rw (at-page-of .page-of .ensures) at (sym (c .before .before .load .ensures) ∙ c .enum-told2 .given .1))
 
 rest-of-requires : tie.Need-rest-of-requires
 rest-of-requires c κs = search needs
@@ -50,21 +57,38 @@ put-requires c κs = search needs
 
 step-past-requires : tie.Need-step-past-requires
 step-past-requires c κs =
-    let a = c .before .before .before .before .before .before .before .before .before .before .before .before .before .before .before .before .before .args in
-    read-stays (a .self) (a .flash .now) (sym (c .before .before .before .before .before .before .before .before .before .before .before .before .before .before .check-reader .ensures) ∙ c .before .before .before .before .before .before .before .before .before .before .before .before .enum-told .given .1) (c .before .before .before .before .before .before .before .r .given .0 .0) (c .before .before .before .before .least .result) (length (a .buffer .now))
-    (rw (c .before .before .before .before .before .before .before .before .before .before .page-of .ensures) at (sym (c .before .before .before .before .before .before .before .before .before .load .ensures) ∙ c .before .before .before .before .before .before .before .r .given .1))
-    (rw (c .before .before .before .before .before .rest-of .ensures, c .before .before .before .before .before .before .before .before .before .before .page-of .ensures) at (c .before .before .before .before .least .ensures)) (omega (arith, c .before .before .before .before .before .before .before .before .before .before .before .before .before .before .before .before .before .good .0))
+    let at-least = c .before .before .before .before in
+    let at-rest-of = at-least .before in
+    let at-r = at-rest-of .before .before in
+    let at-load = at-r .before .before in
+    let at-page-of = at-load .before in
+    let at-enum-told = at-page-of .before .before in
+    let at-check-reader = at-enum-told .before .before in
+    let start = at-check-reader .before .before .before in
+    let a = start .args in
+    read-stays (a .self) (a .flash .now) (sym (at-check-reader .check-reader .ensures) ∙ at-enum-told .enum-told .given .1) (at-r .r .given .0 .0) (at-least .least .result) (length (a .buffer .now))
+    (rw (at-page-of .page-of .ensures) at (sym (at-load .load .ensures) ∙ at-r .r .given .1))
+    (rw (at-rest-of .rest-of .ensures, at-page-of .page-of .ensures) at (at-least .least .ensures)) (omega (arith, start .good .0))
 
 same-length : tie.Need-same-length
 same-length c = search needs
 
 returns-3 : tie.Need-returns-3
 returns-3 c =
-    let a = c .before .before .before .before .before .before .before .before .before .before .before .before .before .before .before .before .before .before .args in
-    let k = read-at (a .self) (a .flash .now) (sym (c .before .before .before .before .before .before .before .before .before .before .before .before .before .before .before .check-reader .ensures) ∙ c .before .before .before .before .before .before .before .before .before .before .before .before .before .enum-told .given .1) (a .buffer .now) (c .before .before .before .before .before .before .before .before .r .given .0 .0) (c .before .before .before .before .before .least .result)
-    (rw (c .before .before .before .before .before .before .before .before .before .before .before .page-of .ensures) at (sym (c .before .before .before .before .before .before .before .before .before .before .load .ensures) ∙ c .before .before .before .before .before .before .before .before .r .given .1))
-    (rw (c .before .before .before .before .before .before .rest-of .ensures, c .before .before .before .before .before .before .before .before .before .before .before .page-of .ensures) at (c .before .before .before .before .before .least .ensures)) in
-    (rw (c .step-past .ensures) (k .0), c .before .before .before .put .ensures ∙ rw (c .before .before .before .before .before .before .rest-of .ensures, c .before .before .before .before .before .before .before .before .before .before .before .page-of .ensures) (k .1))
+    let at-put = c .before .before .before in
+    let at-least = at-put .before .before in
+    let at-rest-of = at-least .before in
+    let at-r = at-rest-of .before .before in
+    let at-load = at-r .before .before in
+    let at-page-of = at-load .before in
+    let at-enum-told = at-page-of .before .before in
+    let at-check-reader = at-enum-told .before .before in
+    let start = at-check-reader .before .before .before in
+    let a = start .args in
+    let k = read-at (a .self) (a .flash .now) (sym (at-check-reader .check-reader .ensures) ∙ at-enum-told .enum-told .given .1) (a .buffer .now) (at-r .r .given .0 .0) (at-least .least .result)
+    (rw (at-page-of .page-of .ensures) at (sym (at-load .load .ensures) ∙ at-r .r .given .1))
+    (rw (at-rest-of .rest-of .ensures, at-page-of .page-of .ensures) at (at-least .least .ensures)) in
+    (rw (c .step-past .ensures) (k .0), at-put .put .ensures ∙ rw (at-rest-of .rest-of .ensures, at-page-of .page-of .ensures) (k .1))
 
 pub read-spec : {M : Type 1} → statement M
 read-spec =

@@ -27,9 +27,12 @@ enum-told c = search needs
 
 returns-2 : tie.Need-returns-2
 returns-2 c =
-    let a = c .before .before .before .before .before .before .before .args in
-    let s = c .before .before .before .before .before .restored-of .ensures in
-    rw s (rehydrate-ended (a .self) (a .flash .now) (a .dehydrated) (rw s at (sym (c .before .before .before .before .check-reader .ensures) ∙ c .before .before .enum-told .given .1)) (rw s at (c .if1 .taken)))
+    let at-check-reader = c .before .before .before .before in
+    let at-restored-of = at-check-reader .before in
+    let start = at-restored-of .before .before in
+    let a = start .args in
+    let s = at-restored-of .restored-of .ensures in
+    rw s (rehydrate-ended (a .self) (a .flash .now) (a .dehydrated) (rw s at (sym (at-check-reader .check-reader .ensures) ∙ c .before .before .enum-told .given .1)) (rw s at (c .if1 .taken)))
 
 page-of-requires : tie.Need-page-of-requires
 page-of-requires c κs = search needs
@@ -42,19 +45,33 @@ crc32-requires c κs = search needs
 
 returns-3 : tie.Need-returns-3
 returns-3 c =
-    let a = c .before .before .before .before .before .before .before .before .before .before .before .before .args in
-    let s = c .before .before .before .before .before .before .before .before .before .before .restored-of .ensures in
-    let sum = c .before .before .crc32 .ensures ∙ ap published (c .before .before .before .payload-at .ensures) in
-    rw s (rehydrate-right (a .self) (a .flash .now) (a .dehydrated) (rw s at (sym (c .before .before .before .before .before .before .before .before .before .check-reader .ensures) ∙ c .before .before .before .before .before .before .before .enum-told .given .1)) (rw s at (c .before .before .before .before .before .if1 .left))
-    (rw (c .before .before .before .before .page-of .ensures, s) at (sym sum ∙ c .if2 .taken)))
+    let at-payload-at = c .before .before .before in
+    let at-page-of = at-payload-at .before in
+    let at-if1 = at-page-of .before in
+    let at-enum-told = at-if1 .before .before in
+    let at-check-reader = at-enum-told .before .before in
+    let at-restored-of = at-check-reader .before in
+    let start = at-restored-of .before .before in
+    let a = start .args in
+    let s = at-restored-of .restored-of .ensures in
+    let sum = c .before .before .crc32 .ensures ∙ ap published (at-payload-at .payload-at .ensures) in
+    rw s (rehydrate-right (a .self) (a .flash .now) (a .dehydrated) (rw s at (sym (at-check-reader .check-reader .ensures) ∙ at-enum-told .enum-told .given .1)) (rw s at (at-if1 .if1 .left))
+    (rw (at-page-of .page-of .ensures, s) at (sym sum ∙ c .if2 .taken)))
 
 returns-4 : tie.Need-returns-4
 returns-4 c =
-    let a = c .before .before .before .before .before .before .before .before .before .before .before .before .args in
-    let s = c .before .before .before .before .before .before .before .before .before .before .restored-of .ensures in
-    let sum = c .before .before .crc32 .ensures ∙ ap published (c .before .before .before .payload-at .ensures) in
-    rehydrate-wrong (a .self) (a .flash .now) (a .dehydrated) (rw s at (sym (c .before .before .before .before .before .before .before .before .before .check-reader .ensures) ∙ c .before .before .before .before .before .before .before .enum-told .given .1)) (rw s at (c .before .before .before .before .before .if1 .left))
-    (λ q. c .if2 .left ((rw (c .before .before .before .before .page-of .ensures, s) at sum) ∙ q ∙ sym (ap (λ (r : PageReader). r .crc) s)))
+    let at-payload-at = c .before .before .before in
+    let at-page-of = at-payload-at .before in
+    let at-if1 = at-page-of .before in
+    let at-enum-told = at-if1 .before .before in
+    let at-check-reader = at-enum-told .before .before in
+    let at-restored-of = at-check-reader .before in
+    let start = at-restored-of .before .before in
+    let a = start .args in
+    let s = at-restored-of .restored-of .ensures in
+    let sum = c .before .before .crc32 .ensures ∙ ap published (at-payload-at .payload-at .ensures) in
+    rehydrate-wrong (a .self) (a .flash .now) (a .dehydrated) (rw s at (sym (at-check-reader .check-reader .ensures) ∙ at-enum-told .enum-told .given .1)) (rw s at (at-if1 .if1 .left))
+    (λ q. c .if2 .left ((rw (at-page-of .page-of .ensures, s) at sum) ∙ q ∙ sym (ap (λ (r : PageReader). r .crc) s)))
 
 pub rehydrate-from-spec : {M : Type 1} → statement M
 rehydrate-from-spec =
