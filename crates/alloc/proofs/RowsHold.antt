@@ -1,4 +1,5 @@
--- Document 01's starred rows about the allocator hold, and the calls for several pages on the same numbers: computed. Assumes nothing.
+-- The reference cases of the allocator (docs/RULES.md, Reference cases) hold, and the calls for several pages on the same
+-- numbers: computed. Assumes nothing.
 use mathlib.Core.Path.{_≡_, refl}
 use mathlib.Core.List.{map}
 use Rattle.alloc.specs.Calls.{reset, markUsed, free, tryAllocate, isUsed, usedPages, freePages, pageCount, marginOf}

@@ -1,4 +1,5 @@
--- Each answer in document 01's words: the number of the row that refuses, 0 where none does, and the values. Assumes nothing.
+-- Each answer as numbers (docs/RULES.md, Refusals): the number of the row that refuses, 0 where none does, and the values.
+-- Assumes nothing.
 use mathlib.Core.List.{List, [], _∷_, map}
 use Prim.Native.Nat.{ℕ}
 use lib.IntN.{ℤ, pos}

@@ -1,5 +1,5 @@
--- What each call answers and leaves (document 01, part 3): the refusal of its check, with the allocator as it was, or its work.
--- Assumes nothing.
+-- What each call answers and leaves (docs/RULES.md, Allocator): the refusal of its check, with the allocator as it was, or its
+-- work. Assumes nothing.
 use mathlib.Core.Bool.{cond}
 use Prim.Native.Nat.{ℕ, _-_, _%_}
 use lib.IntN.{pos, _-ℤ_}

@@ -1,4 +1,4 @@
--- The checks before a call's work, in document 01's order ('When a box says no'). Assumes nothing.
+-- The checks before a call's work, in their order (docs/RULES.md, Order of checks). Assumes nothing.
 use mathlib.Core.Bool.{_&&_, cond}
 use Prim.Native.Nat.{ℕ}
 use lib.Dec.{ltb, leb}

@@ -1,4 +1,4 @@
--- The search (document 01, part 3): from the next page on and round, the first page that is free. Assumes nothing.
+-- The search (docs/RULES.md, Allocator): from the next page on and round, the first page that is free. Assumes nothing.
 use mathlib.Core.Bool.{Bool, false, cond}
 use mathlib.Core.List.{List, [], _∷_, _++_}
 use Prim.Native.Nat.{ℕ, zero, suc, _-_}

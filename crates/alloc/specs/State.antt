@@ -1,4 +1,4 @@
--- The allocator's state: its range (document 01, 'When a box says no'), and the states that calls leave. Assumes nothing.
+-- The allocator's state: its range (docs/RULES.md, Ranges), and the states that calls leave. Assumes nothing.
 use mathlib.Core.Path.{_≡_}
 use mathlib.Core.Bool.{Bool, _&&_, _||_}
 use Prim.Native.Nat.{ℕ, _+_, _-_, _/_, _%_}

@@ -1,4 +1,4 @@
-// What the calls answer. Each answer has a case for the refusals, and the number of document 01's row that refuses, 0 where none does.
+// What the calls answer. Each answer has a case for the refusals, and the number of the row that refuses, 0 where none does.
 // A call that changes the allocator hands it back beside its answer.
 ghost use mathlib.Core.Path.{_≡_};
 ghost use Rattle.alloc.specs.Answers.{allocatedTold, outcomeTold, usageTold, countTold, marginTold};

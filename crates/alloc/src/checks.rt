@@ -1,4 +1,4 @@
-// The checks before a call's work, in document 01's order.
+// The checks before a call's work, in their order (docs/RULES.md, Order of checks).
 ghost use mathlib.Core.Path.{_≡_};
 ghost use Rattle.alloc.specs.Checks.{stateCheck, pageCheck, wantedCheck, countCheck};
 use super::allocator::Allocator;

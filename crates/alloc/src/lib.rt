@@ -1,4 +1,4 @@
-// The page allocator (alloc.rs; document 01, part 3): which pages are used, and which one is looked at next.
+// The page allocator (alloc.rs; docs/RULES.md, Allocator): which pages are used, and which one is looked at next.
 pub mod allocator;
 pub mod answers;
 pub mod checks;

@@ -1,4 +1,4 @@
--- The starred numbers hold: one claim over the table. Each crate has computed the cases about its calls, and a table holds whose
+-- The reference cases hold: one claim over the table. Each crate has computed the cases about its calls, and a table holds whose
 -- cases of each kind do, so nothing is computed again. Assumes nothing.
 use mathlib.Core.Path.{_≡_, refl, ap, _∙_}
 use mathlib.Core.List.{List, [], _∷_, map}

@@ -1,4 +1,4 @@
--- A refused call, asked again (document 01, 'Reading', 'When a box says no'). This is the fault that cost a season of offers: in the
+-- A refused call, asked again (docs/RULES.md, Reading, Merge). This is the fault that the port is there to end: in the
 -- original a reader that has refused a damaged chunk steps on, and asked again serves bytes that no sum covers. Assumes nothing.
 use mathlib.Core.Path.{_≡_}
 use mathlib.Core.List.{List}

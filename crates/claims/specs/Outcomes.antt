@@ -1,6 +1,7 @@
--- How tight a promise is (document 01): it admits one outcome. A promise is what the caller of a function learns of its result r and
--- of its parameters at its exit e, from the lifetimes and the arguments; it is read off the `ensures` clauses themselves. An outcome
--- is the result, of a reference the bytes there, and what each lent `&mut` holds afterwards. Assumes nothing.
+-- How tight a promise is (docs/RULES.md, Promises): it admits one outcome. A promise is what the caller of a function learns of
+-- its result r and of its parameters at its exit e, from the lifetimes and the arguments; it is read off the `ensures` clauses
+-- themselves. An outcome is the result, of a reference the bytes there, and what each lent `&mut` holds afterwards. Assumes
+-- nothing.
 use mathlib.Core.Path.{_≡_}
 
 -- two outcomes that both meet the promise are equal

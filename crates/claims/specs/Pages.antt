@@ -1,4 +1,4 @@
--- A good page, and what is on it (document 01, demand 3): a good header, and only whole chunks that are not empty and whose
+-- A good page, and what is on it (docs/RULES.md, Reading): a good header, and only whole chunks that are not empty and whose
 -- sums are right. What stands behind them may be anything. Assumes nothing.
 use mathlib.Core.Path.{_≡_}
 use mathlib.Core.Bool.{true}

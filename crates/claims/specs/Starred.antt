@@ -1,4 +1,4 @@
--- The starred numbers of document 01 ('Numbers to try'), all of them, as one table of cases in its order. Each case stands in
+-- The reference cases (docs/RULES.md, Reference cases), all of them, as one table of cases in its order. Each case stands in
 -- the crate whose calls it is about, and comes to what the definitions give that those calls promise. Assumes nothing.
 use mathlib.Core.List.{List, [], _∷_}
 use Rattle.page.specs.WalkTable as walks
@@ -43,36 +43,35 @@ expected (recordBytes c) = says (c .says ∷ [])
 
 unfoldable pub starred : List Case
 starred =
-    -- Magic 0xA1, page 0, h 0: A1 00 00 00, then eight 00.
+    -- a page header
     addition additions.header
-    -- Add FF FF FF FF there: stores at 20 (4 bytes), 12 (8). From 12: C5 59 04 00 and eight FF. Next offset 24. Cut after
-    -- one: offset is 12 again.
+    -- a chunk that is added, whole and cut
     ∷ addition additions.added
     ∷ addition additions.addedCut
-    -- Add 00 instead, cut after one store: reopened, the offset is 4096 and write takes 0.
+    -- a cut after which nothing more is added
     ∷ addition additions.zeroCut
-    -- h 0: write of 4077 takes 4076 and commits; of 4075 stays pending.
+    -- the longest payload, and one byte less
     ∷ addition additions.full
     ∷ addition additions.notFull
-    -- h 4: write of 4073 takes 4072 and doesn't commit.
+    -- a page that ends before the longest payload
     ∷ addition additions.higherHeader
-    -- Walk at 4088 reads a header; at 4092 it is the end. Write at offset 4088 takes 0, at 4084 up to 4.
+    -- the last offsets of a page, walked and written
     ∷ walk walks.headerAt4088
     ∷ walk walks.endAt4092
     ∷ addition additions.at4088
     ∷ addition additions.at4084
-    -- len 4076 at offset 12 fits; at 16 Corrupted; 4077 Corrupted.
+    -- the longest chunks, and two that are too long
     ∷ walk walks.longestAt12
     ∷ walk walks.longestAt16
     ∷ walk walks.tooLong
-    -- reset(4, 7): pages 3, 0, 1, 2, none; free page 1, next page 1.
+    -- pages in turn
     ∷ allocation allocations.inTurn
-    -- Runs {a=1, c=3}, {a deleted, b=2}: b, c, End. First record 48 56 00 01 01 00 61 31; deleted a 48 56 01 01 00 00 61.
+    -- two runs, and the bytes of their first records
     ∷ merge merges.roomForAll
     ∷ recordBytes records.liveA
     ∷ recordBytes records.deletedA
-    -- The same with a key buffer of 0 first: 2, both runs past a; with room: b.
+    -- the same runs, first without room
     ∷ merge merges.noRoomFirst
-    -- 100 pages free, 101 wanted: -1.
+    -- too few pages
     ∷ allocation allocations.tooFew
     ∷ []

@@ -1,4 +1,4 @@
--- When a run is gone (document 01, 'Runs and merge'): nothing at its place, or a key past the upper bound, makes it so. Assumes nothing.
+-- When a run is gone (docs/RULES.md, Merge): nothing at its place, or a key past the upper bound, makes it so. Assumes nothing.
 use mathlib.Core.Path.{_≡_, refl, sym, _∙_}
 use mathlib.Core.Bool.{Bool, true, false, cond}
 use mathlib.Core.List.{List}

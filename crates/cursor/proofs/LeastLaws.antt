@@ -1,4 +1,4 @@
--- What a pass finds, in document 01's words: of the lowest key the highest run decides, all runs holding it step on, and
+-- What a pass finds, as docs/RULES.md, Merge has it: of the lowest key the highest run decides, all runs holding it step on, and
 -- no other run moves. Assumes nothing.
 use mathlib.Core.Path.{_≡_, refl, sym, _∙_}
 use mathlib.Core.Bool.{false}

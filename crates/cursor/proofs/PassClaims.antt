@@ -1,4 +1,4 @@
--- The claim on one pass, in document 01's words. Where a pass finds a lowest key: no head is below it; no run above the
+-- The claim on one pass, as docs/RULES.md, Merge has it. Where a pass finds a lowest key: no head is below it; no run above the
 -- one that decides holds it; every holder steps on to its next record; and no other run moves. A run is gone after it that was
 -- gone, has nothing at its place or a key past the upper bound there, and no other. A pass that finds none leaves every run gone.
 -- Assumes nothing.

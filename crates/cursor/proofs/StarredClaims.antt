@@ -1,4 +1,4 @@
--- The starred numbers on runs hold: one claim over the table, by computation. Assumes nothing.
+-- The reference cases on runs hold: one claim over the table, by computation. Assumes nothing.
 use mathlib.Core.Path.{_≡_, refl}
 use mathlib.Core.List.{map, flatten}
 use Rattle.types.specs.Bytes.{word}

@@ -1,4 +1,4 @@
--- The answers of this crate as document 01 counts them: the table's number, 0 where nothing is refused, and the values.
+-- The answers of this crate as numbers (docs/RULES.md, Refusals): the table's number, 0 where nothing is refused, and the values.
 -- Assumes nothing.
 use mathlib.Core.List.{List, [], _∷_}
 use Prim.Native.Nat.{ℕ}

@@ -1,4 +1,4 @@
--- The checks before the work (document 01, 'When a box says no'): 10 for the run ends, then 11 for the places.
+-- The checks before the work (docs/RULES.md, Order of checks, Ranges): 10 for the run ends, then 11 for the places.
 -- Assumes nothing.
 use mathlib.Core.Bool.{Bool, true, cond, _&&_}
 use mathlib.Core.List.{List, [], _∷_}

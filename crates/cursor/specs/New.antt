@@ -1,4 +1,4 @@
--- A cursor over all runs from a lower bound (document 01, 'Runs and merge'). A refused one has every run gone. Assumes
+-- A cursor over all runs from a lower bound (docs/RULES.md, Runs). A refused one has every run gone. Assumes
 -- nothing.
 use mathlib.Core.List.{List}
 use Prim.Native.Nat.{ℕ, zero, suc}

@@ -1,4 +1,4 @@
--- The next entry of the merge (document 01, 'Runs and merge', 'When a box says no'): its answer, the cursor after it, and
+-- The next entry of the merge (docs/RULES.md, Merge): its answer, the cursor after it, and
 -- the two lent buffers. Assumes nothing.
 use mathlib.Core.Bool.{cond}
 use mathlib.Core.List.{List, _++_}

@@ -1,4 +1,4 @@
--- A pass looks at all heads in run order (document 01, 'Runs and merge'). It carries two rows of places: one with the
+-- A pass looks at all heads in run order (docs/RULES.md, Merge). It carries two rows of places: one with the
 -- runs found gone, and the same with the holders of the lowest key stepped on. Assumes nothing.
 use mathlib.Core.Bool.{cond}
 use mathlib.Core.List.{List, []}

@@ -1,4 +1,4 @@
--- A run's place: gone, or a position that counts from the run's start (document 01, 'Runs and merge'). Assumes nothing.
+-- A run's place: gone, or a position that counts from the run's start (docs/RULES.md, Runs). Assumes nothing.
 use mathlib.Core.List.{List}
 use Prim.Native.Nat.{ℕ}
 use lib.ListN.{getD, replicate}

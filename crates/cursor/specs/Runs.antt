@@ -1,4 +1,4 @@
--- The runs in the lent buffer: the first from 0, each other from the end before it (document 01, 'Runs and merge').
+-- The runs in the lent buffer: the first from 0, each other from the end before it (docs/RULES.md, Runs).
 -- Assumes nothing.
 use mathlib.Core.List.{List}
 use Prim.Native.Nat.{ℕ, zero, suc}

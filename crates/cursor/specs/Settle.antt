@@ -1,4 +1,4 @@
--- Passes until the lowest key is not deleted (document 01, 'Runs and merge'). Assumes nothing.
+-- Passes until the lowest key is not deleted (docs/RULES.md, Merge). Assumes nothing.
 use mathlib.Core.Bool.{Bool, false, cond}
 use mathlib.Core.List.{List}
 use Prim.Native.Nat.{ℕ, zero, suc, _+_, _-_}

@@ -1,5 +1,5 @@
--- Document 01's starred numbers on runs, as data: each case has its runs, the room of each call's buffers, and what each
--- call is to give. What it does give is computed from the definitions. Assumes nothing.
+-- The reference cases on runs (docs/RULES.md, Reference cases), as data: each case has its runs, the room of each call's buffers,
+-- and what each call is to give. What it does give is computed from the definitions. Assumes nothing.
 use mathlib.Core.List.{List, [], _∷_, _++_, flatten}
 use Prim.Native.Nat.{ℕ, _+_}
 use lib.ListN.{length, take, replicate}
@@ -17,7 +17,7 @@ use Rattle.cursor.specs.declared.place.RunPlace.{RunPlace}
 
 -- ---- the runs
 
--- b = 2, c = 3; document 01 has the bytes of a = 1 and of a deleted
+-- b = 2, c = 3; the table of records has the bytes of a = 1 and of a deleted
 unfoldable pub liveB : List ℕ
 liveB = 0x48 ∷ 0x56 ∷ 0x00 ∷ 0x01 ∷ 0x01 ∷ 0x00 ∷ 0x62 ∷ 0x32 ∷ []
 

@@ -1,4 +1,4 @@
-// What the calls of this crate answer (document 01, 'Runs and merge').
+// What the calls of this crate answer (docs/RULES.md, Merge).
 ghost use mathlib.Core.Path.{_≡_};
 ghost use Rattle.cursor.specs.Answers.{newNumber, nextNumber};
 use crate::place::Cursor;

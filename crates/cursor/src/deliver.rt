@@ -1,4 +1,4 @@
-// What a settled pass answers, and the lent buffers (document 01, 'Runs and merge').
+// What a settled pass answers, and the lent buffers (docs/RULES.md, Merge).
 ghost use mathlib.Core.Path.{_≡_};
 ghost use Prim.Native.Nat.{_≤_};
 ghost use lib.ListN.{length};

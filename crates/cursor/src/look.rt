@@ -1,4 +1,4 @@
-// What one run's head is to a pass (document 01, 'Runs and merge').
+// What one run's head is to a pass (docs/RULES.md, Merge).
 ghost use mathlib.Core.Path.{_≡_};
 ghost use Rattle.cursor.specs.Pass.{againstLowest, lookWithout, lookAt};
 use crate::place::Place;

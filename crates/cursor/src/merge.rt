@@ -1,4 +1,4 @@
-// The calls that are open to callers (document 01, 'Runs and merge'; cursor.rs).
+// The calls that are open to callers (docs/RULES.md, Merge; cursor.rs).
 ghost use mathlib.Core.Path.{_≡_};
 ghost use lib.ListN.{length};
 ghost use Rattle.cursor.specs.New.{refusedNew, newOf};

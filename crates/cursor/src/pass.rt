@@ -1,4 +1,4 @@
-// A pass over all heads, and passes until the lowest key is live (document 01, 'Runs and merge'; cursor.rs, the loop of next).
+// A pass over all heads, and passes until the lowest key is live (docs/RULES.md, Merge; cursor.rs, the loop of next).
 ghost use mathlib.Core.Path.{_≡_};
 ghost use Prim.Native.Nat.{_≤_};
 ghost use lib.ListN.{length};

@@ -1,4 +1,4 @@
-// Where a cursor stands (document 01, 'Runs and merge').
+// Where a cursor stands (docs/RULES.md, Runs).
 use types::config::FILE_COUNT;
 
 // A run's place: gone, or a position that counts from the run's start.

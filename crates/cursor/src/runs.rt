@@ -1,4 +1,4 @@
-// The runs in the lent buffer (document 01, 'Runs and merge').
+// The runs in the lent buffer (docs/RULES.md, Runs).
 ghost use mathlib.Core.Path.{_≡_};
 ghost use Prim.Native.Nat.{_-_};
 ghost use Rattle.cursor.specs.Runs.{startOf, endOf, runOf};

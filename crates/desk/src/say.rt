@@ -20,7 +20,7 @@ pub fn wrong(program: &[u8], what: &[u8], argument: &[u8]) {
     text(b"\n");
 }
 
-// The name that document 01's table has.
+// The name in the table of docs/RULES.md, Refusals.
 fn name_of(why: Refusal) {
     match why {
         Refusal::Corrupted => text(b"Corrupted"),

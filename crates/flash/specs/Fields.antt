@@ -1,4 +1,4 @@
--- Numbers in lent bytes, little-endian (document 01, 'The build we ship'). Assumes nothing.
+-- Numbers in lent bytes, little-endian (docs/FORMAT.md, Numbers and flash). Assumes nothing.
 use mathlib.Core.List.{List}
 use Prim.Native.Nat.{ℕ}
 use lib.ListN.{take, drop}

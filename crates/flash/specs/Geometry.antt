@@ -1,4 +1,4 @@
--- The lent flash: 1 to 256 whole pages (document 01, 'The build we ship', row 5). Assumes nothing.
+-- The lent flash: 1 to 256 whole pages (docs/FORMAT.md, Numbers and flash). Assumes nothing.
 use mathlib.Core.Bool.{Bool, cond, _&&_}
 use mathlib.Core.List.{List}
 use Prim.Native.Nat.{ℕ, _*_, _/_, _%_}

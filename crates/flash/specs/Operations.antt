@@ -1,4 +1,4 @@
--- Stores and erases, lists of them, and the number of them that is left (document 01, 'Adding to a page', row 9).
+-- Stores and erases, lists of them, and the number of them that is left (docs/RULES.md, Stores left).
 -- An erase carries the value e that it leaves, so that every law holds for any. Assumes nothing.
 use mathlib.Core.Bool.{Bool, true, false}
 use mathlib.Core.List.{List, [], _∷_}

@@ -1,4 +1,4 @@
--- Bytes that replace others (document 01, 'Adding to a page'). Assumes nothing.
+-- Bytes that replace others (docs/RULES.md, Stores left). Assumes nothing.
 use mathlib.Core.List.{List, [], _∷_}
 use Prim.Native.Nat.{ℕ, zero, suc}
 use lib.ListN.{replicate}

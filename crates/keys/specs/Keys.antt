@@ -1,4 +1,4 @@
--- The order of keys: bytewise, a prefix first (document 01, 'Runs and merge'). Assumes nothing.
+-- The order of keys: bytewise, a prefix first (docs/FORMAT.md, Runs). Assumes nothing.
 use mathlib.Core.Path.{_≡_}
 use mathlib.Core.Bool.{cond}
 use mathlib.Core.List.{List, [], _∷_}

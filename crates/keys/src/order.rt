@@ -1,4 +1,4 @@
-// The order of keys: bytewise, a prefix first (document 01, 'Runs and merge').
+// The order of keys: bytewise, a prefix first (docs/FORMAT.md, Runs).
 ghost use mathlib.Core.Path.{_≡_};
 ghost use mathlib.Core.List.{[], _∷_};
 ghost use Prim.Native.Nat.{_+_, _≤_};

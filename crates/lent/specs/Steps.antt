@@ -1,4 +1,4 @@
--- A step of a run reader (document 01, 'List of forms by place'): what stands at its position, and where it stands
+-- A step of a run reader (docs/RULES.md, Runs): what stands at its position, and where it stands
 -- afterwards. Assumes nothing.
 use mathlib.Core.Bool.{cond}
 use mathlib.Core.List.{List}

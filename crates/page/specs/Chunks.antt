@@ -1,5 +1,5 @@
--- A chunk: mark u16, length u16, the sum of the payload, then the payload and padding to a multiple of 4 (document 01,
--- 'Bytes on a page'). Assumes nothing.
+-- A chunk: mark u16, length u16, the sum of the payload, then the payload and padding to a multiple of 4
+-- (docs/FORMAT.md, Pages). Assumes nothing.
 use mathlib.Core.Bool.{cond}
 use mathlib.Core.List.{List, _++_}
 use Prim.Native.Nat.{ℕ, _+_, _-_, _*_, _/_}

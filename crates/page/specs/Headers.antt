@@ -1,4 +1,4 @@
--- The page header: magic u32, page number u32, the sum of the h bytes, then those bytes (document 01, 'Bytes on a page', row 6).
+-- The page header: magic u32, page number u32, the sum of the h bytes, then those bytes (docs/FORMAT.md, Pages).
 -- Assumes nothing.
 use mathlib.Core.Bool.{Bool, cond, _&&_}
 use mathlib.Core.List.{List, _++_}

@@ -1,5 +1,5 @@
--- Document 01's numbers to try on the walk, as a table of cases. A page of erased bytes gets a chunk header at the offset, as
--- far as it fits, and the walk looks there. Assumes nothing.
+-- The reference cases of the walk (docs/RULES.md, Reference cases), as a table. A page of erased bytes gets a chunk header at the
+-- offset, as far as it fits, and the walk looks there. Assumes nothing.
 use mathlib.Core.List.{List, [], _∷_}
 use Prim.Native.Nat.{ℕ}
 use Rattle.types.specs.Build.{pageSize, eraseValue}

@@ -1,4 +1,4 @@
--- The walk over a page's chunks (document 01, 'Bytes on a page'): the whole list of them, and where it ends or that it is
+-- The walk over a page's chunks (docs/FORMAT.md, The walk): the whole list of them, and where it ends or that it is
 -- refused. Assumes nothing.
 use mathlib.Core.Bool.{Bool, true, _&&_}
 use mathlib.Core.List.{List, [], _∷_}

@@ -1,4 +1,4 @@
--- What each call answers, the reader that it hands back, and the bytes that it puts (document 01, 'Reading'): the refusal of its
+-- What each call answers, the reader that it hands back, and the bytes that it puts (docs/RULES.md, Reading): the refusal of its
 -- checks, with the reader and the bytes as they were, or its work. Assumes nothing.
 use mathlib.Core.Bool.{_||_, cond}
 use mathlib.Core.List.{List}

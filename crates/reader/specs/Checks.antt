@@ -1,4 +1,5 @@
--- The range of a reader, and the checks before a call's work, in document 01's order: 5, 6, 11, 4. Assumes nothing.
+-- The range of a reader, and the checks before a call's work, in their order, 5, 6, 11, 4 (docs/RULES.md, Ranges, Order of
+-- checks). Assumes nothing.
 use mathlib.Core.Bool.{Bool, _&&_, _||_, cond}
 use Prim.Native.Nat.{ℕ, _+_, _%_}
 use lib.Dec.{eqb, leb, ltb}

@@ -1,4 +1,4 @@
--- How a reader goes over its page (document 01, 'Reading'). The page is the list of its bytes. Assumes nothing.
+-- How a reader goes over its page (docs/RULES.md, Reading). The page is the list of its bytes. Assumes nothing.
 use mathlib.Core.Path.{_≡_}
 use mathlib.Core.Bool.{true, false, cond}
 use mathlib.Core.List.{List, []}

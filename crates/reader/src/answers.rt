@@ -1,4 +1,4 @@
-// What the calls answer. Each answer has a case for its refusals, and the number of document 01's row that refuses, 0 where none
+// What the calls answer. Each answer has a case for its refusals, and the number of the row that refuses, 0 where none
 // does. A call that moves the reader hands it back beside its answer, and a refused one hands it back as it was.
 ghost use mathlib.Core.Path.{_≡_};
 ghost use Rattle.reader.specs.Answers.{outcomeTold, countTold, endTestTold, dehydrationTold, pageTold};

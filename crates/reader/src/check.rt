@@ -1,4 +1,4 @@
-// The checks before a call's work, in document 01's order: 5, 6, 11, 4.
+// The checks before a call's work, in their order, 5, 6, 11, 4 (docs/RULES.md, Ranges, Order of checks).
 use crate::page_reader::PageReader;
 use flash::geometry::check_flash;
 use flash::geometry::has_page;

@@ -1,4 +1,4 @@
--- Bounds: none, included, excluded (document 01, 'Runs and merge'). The bound's key may have any length. Assumes nothing.
+-- Bounds: none, included, excluded (docs/RULES.md, Runs). The bound's key may have any length. Assumes nothing.
 use mathlib.Core.Bool.{Bool, true, false}
 use mathlib.Core.List.{List}
 use Prim.Native.Nat.{ℕ}

@@ -1,4 +1,5 @@
--- Document 01's records to try, as a table of cases: a run that is one record, and what the record says. Assumes nothing.
+-- The reference cases of records (docs/RULES.md, Reference cases), as a table: a run that is one record, and what the record
+-- says. Assumes nothing.
 use mathlib.Core.Bool.{cond, true, false}
 use mathlib.Core.List.{List, [], _∷_}
 use Prim.Native.Nat.{ℕ}

@@ -1,4 +1,4 @@
--- What stands at a position of a run (document 01, 'Runs and merge'): mark 48 56, kind, key length, value length, key,
+-- What stands at a position of a run (docs/FORMAT.md, Runs): mark 48 56, kind, key length, value length, key,
 -- value. Assumes nothing.
 use mathlib.Core.Bool.{Bool, true, false, cond, _&&_}
 use mathlib.Core.List.{List, [], _∷_}

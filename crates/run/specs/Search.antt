@@ -1,4 +1,4 @@
--- Where a run starts under a lower bound (document 01, 'Runs and merge'): at the first key not below it. Assumes nothing.
+-- Where a run starts under a lower bound (docs/RULES.md, Runs): at the first key not below it. Assumes nothing.
 use mathlib.Core.List.{List}
 use Prim.Native.Nat.{ℕ, zero, suc}
 use lib.ListN.{length}

@@ -1,4 +1,4 @@
-// Bounds of a merge (document 01, 'Runs and merge'). The bound's key is lent beside it, and may have any length.
+// Bounds of a merge (docs/RULES.md, Runs). The bound's key is lent beside it, and may have any length.
 ghost use mathlib.Core.Path.{_≡_};
 ghost use Rattle.run.specs.Bounds.{isPast};
 use keys::order::Ordering;

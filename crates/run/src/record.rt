@@ -1,4 +1,4 @@
-// What stands at a position of a run: a record, nothing, or a refusal (document 01, 'Runs and merge').
+// What stands at a position of a run: a record, nothing, or a refusal (docs/FORMAT.md, Runs).
 ghost use mathlib.Core.Path.{_≡_};
 ghost use Prim.Native.Nat.{_+_, _≤_};
 ghost use lib.ListN.{length};

@@ -1,4 +1,4 @@
-// The search of one run for a lower bound (document 01, 'Runs and merge'; cursor.rs, the linear search).
+// The search of one run for a lower bound (docs/RULES.md, Runs; cursor.rs, the linear search).
 ghost use mathlib.Core.Path.{_≡_};
 ghost use Rattle.run.specs.Answers.{soughtNumber};
 ghost use Rattle.run.specs.Search.{levelAt, soughtWithout, soughtIn};

@@ -1,4 +1,5 @@
--- An answer in document 01's words: the number of the row that refuses, 0 where none does, and the values. Assumes nothing.
+-- An answer as numbers (docs/RULES.md, Refusals): the number of the row that refuses, 0 where none does, and the values. Assumes
+-- nothing.
 use mathlib.Core.List.{List, []}
 use Prim.Native.Nat.{ℕ}
 use Rattle.types.specs.Refusals.{numberOf}

@@ -1,4 +1,4 @@
--- The numbers of the build that we ship (document 01, 'The build we ship'), each by one name. Assumes nothing.
+-- The numbers of the build that we ship (docs/RULES.md, Build), each by one name. Assumes nothing.
 use Prim.Native.Nat.{ℕ, _+_, _-_, _*_}
 use Rattle.types.specs.declared.config.Build.{Build}
 

@@ -1,5 +1,5 @@
 -- Bytes, and the numbers that they are on flash: little-endian, so the first byte counts least
--- (document 01, 'The build we ship'). Assumes nothing.
+-- (docs/FORMAT.md, Numbers and flash). Assumes nothing.
 use mathlib.Core.List.{List, [], _∷_}
 use Prim.Native.Nat.{ℕ, zero, suc, _+_, _*_, _/_, _%_, _<_}
 use lib.ListN.{getD}

@@ -1,4 +1,4 @@
--- Document 01's table 'When a box says no': the number of each row. Assumes nothing.
+-- The table of refusals (docs/RULES.md, Refusals): the number of each row. Assumes nothing.
 use Prim.Native.Nat.{ℕ}
 use Rattle.types.specs.declared.refusal.Refusal.{Refusal}
 use Rattle.types.specs.declared.refusal.Refusal.the-variants.{Corrupted, KeyBufferTooSmall, ValueBufferTooSmall, OutOfRange, BadFlash, BadHeader, BadCount, LaterEdition, Cut, BadRuns, BadState}

@@ -1,4 +1,4 @@
-// The numbers of the build that we ship (document 01, 'The build we ship'; config.rs).
+// The numbers of the build that we ship (docs/RULES.md, Build; config.rs).
 ghost use mathlib.Core.Path.{_≡_};
 ghost use Rattle.types.specs.Build.{theBuild};
 

@@ -1,4 +1,4 @@
-// Why a box says no: document 01's table, row for row.
+// Why a call is refused: the table of docs/RULES.md, Refusals, row for row.
 ghost use mathlib.Core.Path.{_≡_};
 ghost use Rattle.types.specs.Refusals.{numberOf};
 

@@ -1,4 +1,4 @@
--- The starred numbers on adding to a page hold: one claim over the table, by computation. Assumes nothing.
+-- The reference cases on adding to a page hold: one claim over the table, by computation. Assumes nothing.
 use mathlib.Core.Bool.{xor}
 use mathlib.Core.Path.{_≡_, refl}
 use mathlib.Core.List.{map}

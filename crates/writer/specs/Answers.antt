@@ -1,4 +1,5 @@
--- Each answer in document 01's words: the number of the row that refuses, 0 where none does, and the values. Assumes nothing.
+-- Each answer as numbers (docs/RULES.md, Refusals): the number of the row that refuses, 0 where none does, and the values.
+-- Assumes nothing.
 use mathlib.Core.List.{[], _∷_}
 use Rattle.types.specs.Answers.{Told, answered, refusal}
 use Rattle.writer.specs.declared.answers.Length.{Length}

@@ -1,4 +1,4 @@
--- Finishing a chunk (document 01, 'Adding to a page'): the erase if one is armed, the group that is not finished, then the
+-- Finishing a chunk (docs/RULES.md, Adding): the erase if one is armed, the group that is not finished, then the
 -- header. Each definition holds for any erase value e. Assumes nothing.
 use mathlib.Core.Bool.{cond, not, false}
 use mathlib.Core.List.{List, [], _∷_, _++_}

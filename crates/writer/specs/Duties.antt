@@ -1,4 +1,4 @@
--- The calls that owe operations (document 01, 'Adding to a page'): write, commit and write_header. Each definition holds for any
+-- The calls that owe operations (docs/RULES.md, Adding): write, commit and write_header. Each definition holds for any
 -- erase value e. Assumes nothing.
 use mathlib.Core.List.{List}
 use Prim.Native.Nat.{ℕ}

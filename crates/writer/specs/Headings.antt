@@ -1,4 +1,4 @@
--- Writing the page header (document 01, 'Adding to a page'): one store at 0, after the erase if one is armed. Assumes nothing.
+-- Writing the page header (docs/RULES.md, Adding): one store at 0, after the erase if one is armed. Assumes nothing.
 use mathlib.Core.Bool.{false}
 use mathlib.Core.List.{List, [], _∷_, _++_}
 use Prim.Native.Nat.{ℕ, _+_}

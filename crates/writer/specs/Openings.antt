@@ -1,4 +1,4 @@
--- Opening a page to write it anew, or to add to it (document 01, 'Adding to a page'). Stores left goes through. Assumes nothing.
+-- Opening a page to write it anew, or to add to it (docs/RULES.md, Adding). Stores left goes through. Assumes nothing.
 use mathlib.Core.Bool.{cond, true, false}
 use mathlib.Core.List.{List}
 use Prim.Native.Nat.{ℕ}

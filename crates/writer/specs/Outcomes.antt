@@ -1,4 +1,4 @@
--- What a call comes to that owes operations (document 01, 'Adding to a page', the stores left, and row 9): refused before its
+-- What a call comes to that owes operations (docs/RULES.md, Stores left): refused before its
 -- work, done where all of them were made, or cut, and then the writer is as at entry. Assumes nothing.
 use mathlib.Core.Bool.{cond}
 use mathlib.Core.List.{List, []}

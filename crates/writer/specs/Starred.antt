@@ -1,5 +1,6 @@
--- Document 01's starred numbers on adding to a page, as data: each case has calls on a flash of one page, what each call is to
--- give, and bytes of the flash after all of them. What they do give is computed from the definitions. Assumes nothing.
+-- The reference cases on adding to a page (docs/RULES.md, Reference cases), as data: each case has calls on a flash of one page,
+-- what each call is to give, and bytes of the flash after all of them. What they do give is computed from the definitions.
+-- Assumes nothing.
 use mathlib.Core.List.{List, [], _∷_, map}
 use Prim.Native.Nat.{ℕ, _+_}
 use lib.ListN.{length, take, drop, replicate}

@@ -1,4 +1,4 @@
--- The state of a writer and its ranges (document 01, 'When a box says no', at its end). Assumes nothing.
+-- The state of a writer and its ranges (docs/RULES.md, Ranges). Assumes nothing.
 use mathlib.Core.Bool.{Bool, true, _&&_}
 use Prim.Native.Nat.{ℕ, _+_, _-_, _%_, min}
 use lib.Dec.{eqb, leb, ltb}

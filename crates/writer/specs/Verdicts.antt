@@ -1,4 +1,4 @@
--- What is checked before a call's work, in document 01's order: 5, 6, 11, 4 ('When a box says no'). Assumes nothing.
+-- What is checked before a call's work, in their order, 5, 6, 11, 4 (docs/RULES.md, Order of checks). Assumes nothing.
 use mathlib.Core.Bool.{cond, _&&_}
 use Prim.Native.Nat.{ℕ}
 use lib.Dec.{eqb}

@@ -1,4 +1,4 @@
--- Taking bytes (document 01, 'Adding to a page'): the group that they complete, the whole groups in one store, and the rest in
+-- Taking bytes (docs/RULES.md, Adding): the group that they complete, the whole groups in one store, and the rest in
 -- the group buffer. Each definition holds for any erase value e. Assumes nothing.
 use mathlib.Core.Bool.{Bool, cond, not, false, _&&_}
 use mathlib.Core.List.{List, [], _++_}

@@ -1,4 +1,4 @@
-// What the calls answer. Each answer has a case for its refusals, and the number of document 01's row that refuses, 0 where none
+// What the calls answer. Each answer has a case for its refusals, and the number of the row that refuses, 0 where none
 // does. Beside it are the writer and the number of stores left.
 ghost use mathlib.Core.Path.{_≡_};
 ghost use Rattle.writer.specs.Answers.{openingTold, takingTold, outcomeTold, lengthTold, placeTold};
