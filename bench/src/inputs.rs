@@ -25,7 +25,7 @@ pub fn payload() -> Vec<u8> {
     (0..PAYLOAD).map(|_| numbers.next() as u8).collect()
 }
 
-/// Runs of the house layout: 1,000 rising keys each, of 12 bytes, out of 20,000 that all runs share, so that some keys are in several
+/// Runs of records (docs/FORMAT.md, Runs): 1,000 rising keys each, of 12 bytes, out of 20,000 that all runs share, so that some keys are in several
 /// runs; one record in ten is a deletion; a value has 32 bytes, and starts with a number of its own.
 pub fn runs() -> Vec<Vec<u8>> {
     let mut numbers = Numbers(0x2545_F491_4F6C_DD1D);

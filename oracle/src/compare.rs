@@ -24,7 +24,7 @@ pub struct Compared {
     pub by_the_original: usize,
 }
 
-/// Whether a line is a call of the original, and not one that sets a state up, shows it, or asks what only document 01 has.
+/// Whether a line is a call of the original, and not one that sets a state up, shows it, or asks what only the rules have.
 fn asks_the_original(line: &str) -> bool {
     let mut words = line.split(' ');
     match (words.next(), words.next()) {

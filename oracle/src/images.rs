@@ -24,7 +24,7 @@ pub fn chunk_header(payload: &[u8]) -> Vec<u8> {
     bytes
 }
 
-/// A record of the house layout.
+/// A record (docs/FORMAT.md, Runs).
 pub fn record(kind: u8, key: &[u8], value: &[u8]) -> Vec<u8> {
     let mut bytes = vec![0x48, 0x56, kind, key.len() as u8];
     bytes.extend((value.len() as u16).to_le_bytes());

@@ -1,4 +1,4 @@
-//! The original Rust as the judge of the port (document 01, demand 2).
+//! The original Rust as the judge of the port (docs/ORACLE.md).
 //!
 //! `types`, `alloc`, `page` and `cursor` are the original's own files, built unchanged from where build.rs found them.
 //! Each has a module `peek` of ours beside it, which reads and sets the fields that the original keeps to itself.

@@ -1,4 +1,4 @@
-//! `compare`, on the oracle's own two other voices: `rules` is the same, and `raw` departs where document 01 does.
+//! `compare`, on the oracle's own two other voices: `rules` is the same, and `raw` departs where the rules do.
 use std::process::{Command, Output};
 
 fn compare(mode: &str, part: &str) -> Output {

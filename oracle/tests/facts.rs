@@ -1,4 +1,4 @@
-//! Document 01's numbers and published ones, asked of the original through scripts.
+//! The reference cases (docs/RULES.md, Reference cases) and published numbers, asked of the original through scripts.
 use oracle::world::{answers, Mode};
 
 /// A script with the answers to it, each after its call and ` = `.

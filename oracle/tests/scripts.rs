@@ -1,4 +1,4 @@
-//! Whole scripts: random ones, those to record, and those in docs/ORACLE.md.
+//! Whole scripts: random ones, those to record, and those in docs/FINDINGS.md.
 use oracle::script::MAX_LINE;
 use oracle::world::{answers, Mode};
 use oracle::{fixed, gen};
@@ -24,7 +24,7 @@ fn the_same_seed_gives_the_same_script() {
     assert!(!gen::script(5, 500, "nothing", &mut Vec::new()));
 }
 
-/// In range, the original never panics, and document 01 has an answer to everything.
+/// In range, the original never panics, and the rules have an answer to everything.
 #[test]
 fn run_and_rules_agree_where_both_answer() {
     for (seed, part) in PARTS.iter().enumerate() {
@@ -44,7 +44,7 @@ fn run_and_rules_agree_where_both_answer() {
     }
 }
 
-/// Up to the first refusal, or the first state that only document 01 has, the raw original answers the same.
+/// Up to the first refusal, or the first state that only the rules have, the raw original answers the same.
 #[test]
 fn raw_agrees_up_to_the_first_refusal() {
     for seed in 0..60 {
@@ -64,7 +64,7 @@ fn raw_agrees_up_to_the_first_refusal() {
     }
 }
 
-/// Of those to record, the sums and the allocators are the original's alone; document 01 answers the rest.
+/// Of those to record, the sums and the allocators are the original's alone; the rules answer the rest.
 #[test]
 fn the_scripts_to_record() {
     for name in PARTS {
@@ -123,7 +123,7 @@ fn a_merge_is_the_newest_of_each_key() {
 /// and `# rules ` for one.
 #[test]
 fn the_scripts_of_the_document() {
-    let text = include_str!("../../docs/ORACLE.md");
+    let text = include_str!("../../docs/FINDINGS.md");
     let blocks: Vec<&str> = text
         .split("```script\n")
         .skip(1)

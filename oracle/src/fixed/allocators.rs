@@ -17,7 +17,7 @@ pub fn allocators() -> Vec<String> {
     calls.iter().map(|call| format!("alloc {call}")).collect()
 }
 
-/// A new one, and document 01's own numbers.
+/// A new one, and the reference cases.
 fn document_01() -> Vec<String> {
     let row = "new|page_count|try_allocate|free_pages|margin 0|margin 256|state|reset 4 7|try_allocate|try_allocate\
         |try_allocate|try_allocate|try_allocate|state|free 1|try_allocate|try_allocate|reset 100 0|margin 101\

@@ -142,7 +142,7 @@ impl Gen<'_> {
         }
     }
 
-    /// Changes a byte under the reader: document 01 keeps no copy.
+    /// Changes a byte under the reader: the rules keep no copy.
     fn change_page(&mut self, images: &[Image]) -> String {
         let at = self.rng.below(images.len());
         let image = &images[at];

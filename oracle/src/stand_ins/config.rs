@@ -1,4 +1,4 @@
-//! For config.rs: document 01's numbers of the build that we ship.
+//! For config.rs: the numbers of the build that we ship (docs/RULES.md, Build).
 
 pub const PAGE_SIZE: usize = 4096;
 pub const ALIGN: usize = 4;
@@ -16,5 +16,5 @@ pub const MAX_CHUNK_SIZE: usize = PAGE_SIZE;
 /// The longest higher header.
 pub const MAX_HEADER_SIZE: usize = 64;
 
-/// The house layout's: mark of 2, kind, key length, value length of 2.
+/// Of a record: mark of 2, kind, key length, value length of 2.
 pub const RECORD_HEADER_SIZE: usize = 6;

@@ -1,4 +1,4 @@
-//! For file.rs: a file is one run of document 01's house layout, and a file reader a position in it.
+//! For file.rs: a file is one run of records (docs/FORMAT.md, Runs), and a file reader a position in it.
 use super::record::{end_of, End, Scratch};
 use crate::errors::Error;
 use crate::flash::{Fault, Flash};

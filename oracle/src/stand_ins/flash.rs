@@ -6,7 +6,7 @@ use std::fmt::Debug;
 /// What a flash may answer besides doing what it was asked.
 #[derive(Clone, Copy, PartialEq, Eq, Debug)]
 pub enum Fault {
-    /// No store is left (document 01's 9).
+    /// No store is left (9).
     Cut,
     /// A record of an edition that came after this one (8). The original has no name for it, so it comes along as a fault.
     LaterEdition,
@@ -25,7 +25,7 @@ pub trait Flash {
         &[]
     }
 
-    /// Whether a record is checked up to its end when its header is read, as document 01 does.
+    /// Whether a record is checked up to its end when its header is read, as the rules ask.
     fn checks_whole(&self) -> bool {
         true
     }

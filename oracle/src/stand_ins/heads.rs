@@ -1,4 +1,4 @@
-//! Page headers for every length that document 01 allows, with a magic that is part of the type, as the original wants it.
+//! Page headers for every length that is allowed, with a magic that is part of the type, as the original wants it.
 use crate::page::Header;
 
 /// The magics that scripts may use. The original takes a magic as a constant of a type, so there is one type for each.

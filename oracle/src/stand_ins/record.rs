@@ -1,4 +1,4 @@
-//! For record.rs: records of document 01's house layout, and the database that the cursor asks for.
+//! For record.rs: records (docs/FORMAT.md, Runs), and the database that the cursor asks for.
 use super::embassy_sync::blocking_mutex::raw::RawMutex;
 use super::embassy_sync::mutex::Mutex;
 use super::file::FileManager;
@@ -14,7 +14,7 @@ pub enum End {
     LaterEdition,
 }
 
-/// The checks of the record that starts at a position before the run's end, in document 01's order. The last one, on the
+/// The checks of the record that starts at a position before the run's end, in the order of docs/FORMAT.md, Runs. The last one, on the
 /// run's end, can be left out, as the original's file layer has none like it.
 pub fn end_of(run: &[u8], at: usize, whole: bool) -> End {
     let Some(header) = run[at..].first_chunk::<RECORD_HEADER_SIZE>() else {

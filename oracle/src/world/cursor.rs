@@ -71,7 +71,7 @@ impl World {
         Ok(told)
     }
 
-    /// A refused opening leaves a cursor with every run gone, by document 01. The original leaves none.
+    /// A refused opening leaves a cursor with every run gone, by the rules. The original leaves none.
     fn open_cursor(&mut self, kind: Kind, key: &[u8]) -> Told {
         let entry = std::mem::take(&mut self.cursor);
         if let Some(no) = self.refused(first([(10, runs_fine(self.runs.bytes.len(), &self.runs.ends))])) {

@@ -20,9 +20,9 @@ use std::sync::Once;
 /// Whose answers are printed.
 #[derive(Clone, Copy, PartialEq, Eq, Debug)]
 pub enum Mode {
-    /// The original's, where document 01 lets it be asked and does not depart from it.
+    /// The original's, where the rules (docs/RULES.md) let it be asked and do not depart from it.
     Run,
-    /// The same, and document 01's where the original is not asked or departs.
+    /// The same, and that of the rules where the original is not asked or departs.
     Rules,
     /// The original's, whatever it is asked and whatever became of its state.
     Raw,
@@ -32,7 +32,7 @@ pub enum Mode {
 pub enum Told {
     /// The original's own answer.
     Rust(String),
-    /// Document 01's answer: the original has none, or another.
+    /// The answer of the rules: the original has none, or another.
     Rules(String),
     /// The original panicked.
     Panic,
@@ -107,7 +107,7 @@ impl World {
         call(self)
     }
 
-    /// Document 01's refusal before the work. The raw original has none.
+    /// The refusal before the work (docs/RULES.md, Order of checks). The raw original has none.
     fn refused(&self, no: Option<u8>) -> Option<u8> {
         no.filter(|_| !self.raw())
     }

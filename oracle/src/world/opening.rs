@@ -35,7 +35,7 @@ impl World {
         ])
     }
 
-    /// Where a fresh reader opens at the end and this one is refused for its former chunk's sum, document 01 departs.
+    /// Where a fresh reader opens at the end and this one is refused for its former chunk's sum, the rules depart.
     pub(super) fn open(&mut self, of: Named) -> Told {
         let no = self.no_opening(of);
         let entry = self.reader.clone();
@@ -67,7 +67,7 @@ impl World {
         told
     }
 
-    /// Where the dehydrated reader is at its end and the original refuses it, document 01 departs.
+    /// Where the dehydrated reader is at its end and the original refuses it, the rules depart.
     pub(super) fn rehydrate(&mut self, slot: usize) -> Told {
         let from = self.slots[slot];
         let told = self.on_reader(self.no_reading(&from), |r, flash| {

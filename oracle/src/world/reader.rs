@@ -84,7 +84,7 @@ impl World {
         usize::from(page) < self.flash.bytes.len() / PAGE_SIZE
     }
 
-    /// Where the flash is not what it was when the chunk was copied, document 01 departs: it keeps no copy.
+    /// Where the flash is not what it was when the chunk was copied, the rules depart: they keep no copy.
     fn read(&mut self, room: usize) -> Told {
         let stale = !self.raw() && self.no_reading(&self.reader.fields).is_none() && self.copy_chunk();
         let told = self.of_reader(|r, flash| {

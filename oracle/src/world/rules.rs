@@ -1,9 +1,9 @@
-//! Document 01's checks before the work: what is allowed, and which state is in range.
+//! The checks before the work (docs/RULES.md, Order of checks, Ranges): what is allowed, and which state is in range.
 use crate::alloc::peek::Fields;
 use crate::config::{FILE_COUNT, MAX_HEADER_SIZE, MAX_PAGE_COUNT, PAGE_SIZE};
 use crate::page::peek::{ReaderFields, WriterFields};
 
-/// The first refusal that is due, the checks given in document 01's order: 5, 10, 7, 6, 11, 4.
+/// The first refusal that is due, the checks given in their order: 5, 10, 7, 6, 11, 4.
 pub fn first<const N: usize>(checks: [(u8, bool); N]) -> Option<u8> {
     checks.iter().find(|(_, fine)| !fine).map(|(no, _)| *no)
 }

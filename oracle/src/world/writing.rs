@@ -18,7 +18,7 @@ pub fn at_start() -> WriterFields {
     peek::look_writer(&PageWriter::<Head<{ MAGICS[0] }, 0>>::new())
 }
 
-/// Asks the original, and gives a refusal document 01's number.
+/// Asks the original, and gives a refusal its number in docs/RULES.md, Refusals.
 fn asked<T>(call: impl Future<Output = Result<T, Error<FlashFault>>>) -> Option<Result<T, u8>> {
     let done = caught(|| block_on(call))?;
     Some(done.map_err(|error| match error {
