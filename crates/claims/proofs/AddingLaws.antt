@@ -16,8 +16,8 @@ use Rattle.types.proofs.TestLaws.{le-or-lt, eq-or-ne}
 use Rattle.crc.specs.Register.{preset, updated}
 use Rattle.crc.proofs.RegisterLaws.{crc-append}
 use Rattle.flash.specs.Operations.{store, opIf, made, applied}
-use Rattle.flash.specs.Patch.{over, patch}
-use Rattle.flash.proofs.PatchLaws.{length-over, length-patch, patch-none}
+use Rattle.slices.specs.Patch.{over, patch}
+use Rattle.slices.proofs.PatchLaws.{length-over, length-patch, patch-none}
 use Rattle.writer.specs.Writes.{lacking, toGroup, completes, toWhole, groupOf, bufferOf, payloadOps, grown}
 use Rattle.writer.specs.declared.page_writer.PageWriter.{PageWriter}
 use Rattle.claims.proofs.GroupLaws.{wholes, rest, length-rest, over-take, patch-take, rest-even, wholes-short, rest-short, wholes-take, group-stored, wholes-stored}

@@ -14,9 +14,9 @@ use Rattle.types.specs.declared.page_id.PageID.{PageID}
 use Rattle.types.proofs.TestLaws.{eq-or-ne}
 use Rattle.crc.specs.Register.{preset, updated, finished}
 use Rattle.flash.specs.Operations.{Op, store, opIf, made, applied}
-use Rattle.flash.specs.Patch.{patch}
+use Rattle.slices.specs.Patch.{patch}
 use Rattle.flash.proofs.PageLaws.{opAt, opBytes, made-patch}
-use Rattle.flash.proofs.PatchLaws.{patch-join, take-patch-below}
+use Rattle.slices.proofs.PatchLaws.{patch-join, take-patch-below}
 use Rattle.flash.proofs.OperationLaws.{applied-append}
 use Rattle.page.specs.Chunks.{chunkHeader, alignUp}
 use Rattle.writer.specs.Commits.{groupAt, payloadFrom, chunkOps}

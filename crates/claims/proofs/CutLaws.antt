@@ -15,7 +15,7 @@ use Rattle.flash.specs.Geometry.{flashFine, hasPage, pageStart, pageOf}
 use Rattle.flash.specs.Operations.{Op, applied, allowed}
 use Rattle.flash.proofs.GeometryLaws.{page-inside, length-page}
 use Rattle.flash.proofs.PageLaws.{length-applied, page-applied}
-use Rattle.flash.proofs.PatchLaws.{patch-none}
+use Rattle.slices.proofs.PatchLaws.{patch-none}
 use Rattle.page.specs.Headers.{headerFine}
 use Rattle.page.specs.Walks.{walkFrom, allErased}
 use Rattle.page.specs.declared.walk.Ending.the-variants.{EndAt}

@@ -12,7 +12,7 @@ use Rattle.types.specs.declared.page_id.PageID.{PageID}
 use Rattle.crc.specs.Published.{published}
 use Rattle.flash.specs.Geometry.{flashFine, hasPage, pageOf}
 use Rattle.flash.specs.Operations.{Op, applied}
-use Rattle.flash.specs.Patch.{blank}
+use Rattle.slices.specs.Patch.{blank}
 use Rattle.flash.proofs.PageLaws.{length-applied}
 use Rattle.page.specs.Chunks.{chunkMagic, nextOffset}
 use Rattle.page.specs.Walks.{Chunk, walkFrom}

@@ -11,7 +11,7 @@ use Rattle.types.specs.Build.{eraseValue, pageHeaderSize}
 use Rattle.types.specs.declared.page_id.PageID.{PageID}
 use Rattle.types.specs.declared.refusal.Verdict.the-variants.{Fine}
 use Rattle.flash.specs.Geometry.{flashFine, hasPage, pageOf}
-use Rattle.flash.specs.Patch.{blank}
+use Rattle.slices.specs.Patch.{blank}
 use Rattle.page.specs.Chunks.{chunkMagic, nextOffset}
 use Rattle.page.specs.Walks.{Chunk, walkFrom}
 use Rattle.page.proofs.LaidLaws.{All}

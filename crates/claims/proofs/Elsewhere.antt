@@ -11,7 +11,7 @@ use Rattle.types.specs.declared.refusal.Verdict.the-variants.{Fine, Refused}
 use Rattle.flash.specs.Geometry.{pageStart, pageOf}
 use Rattle.flash.specs.Operations.{Op, made, applied, allowed}
 use Rattle.flash.proofs.PageLaws.{opAt, opBytes, made-patch, length-applied, other-page}
-use Rattle.flash.proofs.PatchLaws.{patch-below, patch-above}
+use Rattle.slices.proofs.PatchLaws.{patch-below, patch-above}
 use Rattle.writer.specs.Duties.{Duty, leaves, makes}
 use Rattle.writer.specs.Outcomes.{endedFlash, endedOps}
 use Rattle.writer.specs.declared.page_writer.PageWriter.{PageWriter}

@@ -7,8 +7,8 @@ use native.Mathlib.Nat.{zero-add}
 use native.Mathlib.Omega.{arith}
 use lib.ListN.{length, take, drop, length-append, length-take, length-drop, take-append-drop}
 use lib.Seq.{take-all, take-append-le, drop-append-le, take-append-add, drop-append-add}
-use Rattle.flash.specs.Patch.{over, patch}
-use Rattle.flash.proofs.PatchLaws.{length-patch, patch-join}
+use Rattle.slices.specs.Patch.{over, patch}
+use Rattle.slices.proofs.PatchLaws.{length-patch, patch-join}
 
 -- ---- the whole groups of a list, and the rest
 

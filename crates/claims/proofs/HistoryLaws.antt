@@ -14,7 +14,7 @@ use Rattle.types.specs.declared.page_id.PageID.{PageID}
 use Rattle.types.proofs.TestLaws.{eq-or-ne, le-or-lt}
 use Rattle.flash.specs.Geometry.{flashFine, hasPage, pageOf}
 use Rattle.flash.specs.Operations.{Op, applied}
-use Rattle.flash.specs.Patch.{blank}
+use Rattle.slices.specs.Patch.{blank}
 use Rattle.page.specs.Chunks.{chunkMagic, nextOffset}
 use Rattle.writer.specs.Openings.{appended, resumeAt}
 use Rattle.writer.specs.States.{fresh}

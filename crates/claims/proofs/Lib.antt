@@ -22,6 +22,7 @@ pub mod OnePage
 pub mod OneReader
 pub mod OneRun
 pub mod OneScript
+pub mod OneSlices
 pub mod OneTypes
 pub mod OneWriter
 pub mod OutcomeLaws

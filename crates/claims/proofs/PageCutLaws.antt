@@ -15,9 +15,9 @@ use Rattle.crc.specs.Published.{published}
 use Rattle.crc.specs.Register.{preset, updated, finished}
 use Rattle.crc.proofs.DividesLaws.{register-is-published}
 use Rattle.flash.specs.Operations.{Op, store, made, applied}
-use Rattle.flash.specs.Patch.{patch, blank}
+use Rattle.slices.specs.Patch.{patch, blank}
 use Rattle.flash.proofs.OperationLaws.{applied-append}
-use Rattle.flash.proofs.PatchLaws.{length-patch, part-patch, take-patch-below, drop-patch-above}
+use Rattle.slices.proofs.PatchLaws.{length-patch, part-patch, take-patch-below, drop-patch-above}
 use Rattle.page.specs.Chunks.{alignUp, chunkMagic, chunkHeader, nextOffset, chunkAt, payloadAt}
 use Rattle.page.specs.Walks.{walkFrom, allErased}
 use Rattle.page.specs.declared.chunk.Step.the-variants as step

@@ -11,7 +11,7 @@ use Rattle.types.specs.Bytes.{Bytes, word, bytesOf}
 use Rattle.crc.specs.Published as crc
 use Rattle.crc.specs.Register.{tap, stepped, steps, taken, updated}
 use Rattle.flash.specs.Geometry.{flashFine, hasPage, pageOf}
-use Rattle.flash.specs.Patch.{over, patch, blank}
+use Rattle.slices.specs.Patch.{over, patch, blank}
 use Rattle.page.specs.Chunks.{chunkHeader, chunkAt}
 use Rattle.page.specs.Headers.{pageHeader, pageHeaderFine}
 use Rattle.page.specs.Walks.{walk, walkFrom, allErased}

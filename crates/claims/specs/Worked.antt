@@ -4,7 +4,7 @@ use Prim.Native.Nat.{ℕ, _-_}
 use Rattle.types.specs.Build.{eraseValue, pageSize}
 use Rattle.types.specs.declared.page_id.PageID.{PageID}
 use Rattle.crc.specs.Published.{published}
-use Rattle.flash.specs.Patch.{blank}
+use Rattle.slices.specs.Patch.{blank}
 use Rattle.page.specs.Chunks.{chunkHeader}
 use Rattle.page.specs.Headers.{pageHeader}
 use Rattle.claims.specs.Sequences.{AddCall, writes, commits}

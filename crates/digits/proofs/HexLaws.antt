@@ -10,8 +10,8 @@ use lib.Dec.{eqb}
 use lib.ListN.{length, take, drop, getD, set, drop-of-length-le}
 use lib.Seq.{drop-cons, take-all}
 use borrow.Author.Tests.{le-ltb, lt-ltb, le-leb, lt-leb}
-use Rattle.flash.specs.Patch.{over}
-use Rattle.flash.proofs.PatchLaws.{put-turn}
+use Rattle.slices.specs.Patch.{over}
+use Rattle.slices.proofs.PatchLaws.{put-turn}
 use Rattle.types.proofs.TestLaws.{le-or-lt}
 use Rattle.digits.specs.Hex.{digitIn, digitOf, allDigits, byteIn, bytesIn, decodedOf, hexOf}
 use Rattle.digits.specs.declared.hex.Decoded.the-variants.{Bytes, Bad, NoRoom}

@@ -4,7 +4,7 @@ use mathlib.Core.List.{List, [], _∷_}
 use Prim.Native.Nat.{ℕ, zero, suc, _+_, _-_, _*_, _/_, _%_}
 use lib.Dec.{eqb, leb, ltb}
 use lib.ListN.{length}
-use Rattle.flash.specs.Patch.{over}
+use Rattle.slices.specs.Patch.{over}
 use Rattle.digits.specs.declared.hex.Decoded.{Decoded}
 use Rattle.digits.specs.declared.hex.Decoded.the-variants.{Bytes, Bad, NoRoom}
 

@@ -3,7 +3,7 @@ ghost use mathlib.Core.Path.{_≡_};
 ghost use mathlib.Core.List.{[]};
 ghost use Prim.Native.Nat.{_≤_, _*_, _/_, _%_, min};
 ghost use lib.ListN.{length, take};
-ghost use Rattle.flash.specs.Patch.{over};
+ghost use Rattle.slices.specs.Patch.{over};
 ghost use Rattle.digits.specs.Hex.{digitIn, digitOf, allDigits, byteIn, bytesIn, decodedOf, bufferAfter, digitsOf, hexOf};
 use types::num::least;
 

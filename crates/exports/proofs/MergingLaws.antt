@@ -8,7 +8,7 @@ use lib.Dec.{eqb}
 use lib.ListN.{length}
 use Rattle.types.specs.Refusals.{numberOf}
 use Rattle.types.specs.declared.refusal.Refusal.{Refusal}
-use Rattle.flash.specs.Fields.{field}
+use Rattle.slices.specs.Fields.{field}
 use Rattle.run.specs.declared.bound.Bound.the-variants.{Unbounded}
 use Rattle.cursor.specs.Answers.{newNumber}
 use Rattle.cursor.specs.New.{newOf}

@@ -6,7 +6,7 @@ use native.Mathlib.Nat.{sub-zero}
 use lib.ListN.{length, take, drop}
 use Rattle.types.specs.Refusals.{numberOf}
 use Rattle.types.specs.declared.refusal.Refusal.{Refusal}
-use Rattle.flash.proofs.PatchLaws.{take-least}
+use Rattle.slices.proofs.PatchLaws.{take-least}
 use Rattle.alloc.specs.Answers.{outcomeTold}
 use Rattle.alloc.specs.Calls.{freePages}
 use Rattle.alloc.specs.Several.{allocateEach, placesAfter, freeEach}

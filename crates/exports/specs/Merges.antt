@@ -5,7 +5,7 @@ use Prim.Native.Nat.{ℕ, zero, suc}
 use lib.Dec.{eqb}
 use lib.ListN.{length}
 use Rattle.types.specs.Refusals.{numberOf}
-use Rattle.flash.specs.Fields.{field}
+use Rattle.slices.specs.Fields.{field}
 use Rattle.run.specs.declared.bound.Bound.the-variants.{Unbounded}
 use Rattle.cursor.specs.Answers.{newNumber}
 use Rattle.cursor.specs.New.{newOf}

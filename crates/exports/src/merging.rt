@@ -2,8 +2,8 @@
 use crate::telling::mixed;
 use cursor::answer::NextAnswer;
 use cursor::place::Cursor;
-use flash::field::get32;
 use run::bound::Bound;
+use slices::field::get32;
 ghost use mathlib.Core.Path.{_≡_};
 ghost use Rattle.exports.specs.Merges.{stateOf, summed, isEntry, mergeOne, begun, mergeAll};
 

@@ -1,6 +1,6 @@
 // A page, written anew and committed.
 use crate::telling::told;
-use flash::part::part_of;
+use slices::part::part_of;
 use types::config::PAGE_SIZE;
 use types::num::least;
 use types::page_id::PageID;

@@ -1,17 +1,14 @@
 -- The shape of the flash, and a page as a part of it. Assumes nothing.
-use mathlib.Core.Path.{_≡_, sym, ap, _∙_}
+use mathlib.Core.Path.{_≡_}
 use mathlib.Core.Bool.{true}
 use mathlib.Core.List.{List}
-use mathlib.Core.Logic.{⊎-elim}
-use Prim.Native.Nat.{ℕ, _+_, _-_, _*_, _%_, _≤_, _<_, min}
+use Prim.Native.Nat.{ℕ, _+_, _*_, _%_, _≤_, _<_}
 use native.Mathlib.Omega.{arith}
-use lib.ListN.{length, take, drop, length-take, length-drop, drop-of-length-le}
-use lib.Seq.{take-nil}
+use lib.ListN.{length, length-take, length-drop}
 use borrow.Author.Tests.{eqb-true, leb-true, eq-eqb, le-leb}
 use Rattle.types.specs.Build.{pageSize}
-use Rattle.types.proofs.TestLaws.{both-true, le-or-lt}
+use Rattle.types.proofs.TestLaws.{both-true}
 use Rattle.flash.specs.Geometry.{flashFine, pageCount, pageStart, pageFrom}
-use Rattle.flash.proofs.PatchLaws.{take-least}
 
 -- a fine flash is 1 to 256 whole pages, and the other way round
 pub fine-whole : (n : ℕ) → flashFine n ≡ true → (n ≡ pageCount n * pageSize) × ((1 ≤ pageCount n) × (pageCount n ≤ 256))
@@ -33,19 +30,3 @@ page-inside n p h = omega arith
 
 pub length-page : (base : ℕ) (xs : List ℕ) → base + pageSize ≤ length xs → length (pageFrom base xs) ≡ pageSize
 length-page base xs h = simp (length-take, length-drop) (omega arith)
-
--- a part from a start that is not past the end, to an end that is not past it either
-pub part-lent : (xs : List ℕ) (from count start end : ℕ) → start ≡ min from (length xs) → end ≡ start + min count (length xs - start)
-    → take (end - start) (drop start xs) ≡ take count (drop from xs)
-part-lent xs from count start end s e =
-    ⊎-elim
-    (λ (inside : from ≤ length xs).
-    let a : start ≡ from = omega arith in
-    let l : length (drop from xs) ≡ length xs - from = length-drop from xs in
-    let k : end - start ≡ min (length (drop from xs)) count = omega arith in
-    ap (λ (i : ℕ). take (end - start) (drop i xs)) a ∙ take-least (end - start) count (drop from xs) k)
-    (λ (past : length xs < from).
-    let a : length xs ≤ start = omega arith in
-    let b : length xs ≤ from = omega arith in
-    ap (take (end - start)) (drop-of-length-le xs a) ∙ take-nil (end - start) ∙ sym (ap (take count) (drop-of-length-le xs b) ∙ take-nil count))
-    (le-or-lt from (length xs))

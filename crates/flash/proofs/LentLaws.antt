@@ -9,8 +9,8 @@ use lib.ListN.{length, take, drop, length-drop, drop-of-length-le}
 use lib.Seq.{take-all}
 use Rattle.types.specs.Build.{pageSize}
 use Rattle.types.proofs.TestLaws.{le-or-lt}
-use Rattle.flash.specs.Patch.{over, patch, blank}
-use Rattle.flash.proofs.PatchLaws.{patch-none, patch-past, take-least}
+use Rattle.slices.specs.Patch.{over, patch, blank}
+use Rattle.slices.proofs.PatchLaws.{patch-none, patch-past, take-least}
 
 patch-part : (at : ℕ) (bytes xs : List ℕ) → at ≤ length xs → take at xs ++ over bytes (drop at xs) ≡ patch at bytes xs
 unfolding patch

@@ -11,9 +11,9 @@ use Rattle.types.specs.Build.{pageSize}
 use Rattle.types.proofs.TestLaws.{le-or-lt}
 use Rattle.flash.specs.Geometry.{pageStart, pageFrom, pageOf}
 use Rattle.flash.specs.Operations.{Op, erase, store, made, applied}
-use Rattle.flash.specs.Patch.{patch, blank}
+use Rattle.slices.specs.Patch.{patch, blank}
 use Rattle.flash.proofs.GeometryLaws.{length-page}
-use Rattle.flash.proofs.PatchLaws.{length-patch, patch-none, patch-all, patch-in, patch-below, patch-above, take-patch, drop-patch, take-patch-below, drop-patch-above, length-blank}
+use Rattle.slices.proofs.PatchLaws.{length-patch, patch-none, patch-all, patch-in, patch-below, patch-above, take-patch, drop-patch, take-patch-below, drop-patch-above, length-blank}
 
 -- where an operation puts its bytes, and which
 abbrev pub opAt : Op → ℕ

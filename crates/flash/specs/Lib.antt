@@ -1,4 +1,2 @@
 pub mod Geometry
-pub mod Fields
 pub mod Operations
-pub mod Patch

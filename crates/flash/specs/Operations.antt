@@ -6,7 +6,7 @@ use Prim.Native.Nat.{ℕ, _+_, _-_}
 use lib.Dec.{leb}
 use lib.ListN.{length, take}
 use Rattle.types.specs.Build.{pageSize}
-use Rattle.flash.specs.Patch.{patch, blank}
+use Rattle.slices.specs.Patch.{patch, blank}
 use Rattle.flash.specs.declared.ops.Spent.{Spent}
 
 -- an operation on a page: its erase, which leaves a value, or a store of bytes at an offset in it

@@ -1,5 +1,5 @@
 // The shape of the lent flash, and the part of it that a page is.
-use crate::part::part_of;
+use slices::part::part_of;
 use types::config::MAX_PAGE_COUNT;
 use types::config::PAGE_SIZE;
 use types::page_id::PageID;

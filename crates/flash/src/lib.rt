@@ -1,5 +1,3 @@
-// The lent flash: its shape, the numbers in its bytes, and the operations that change it.
-pub mod field;
+// The lent flash: its shape, and the operations that change it.
 pub mod geometry;
 pub mod ops;
-pub mod part;

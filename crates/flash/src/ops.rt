@@ -3,7 +3,7 @@
 // The forms with `_if` make a call's list of operations a line each, with no branch between them: where one is cut none is
 // left, so the later ones make nothing.
 use crate::geometry::page_start;
-use crate::part;
+use slices::part;
 use types::config::PAGE_SIZE;
 use types::num::least;
 use types::num::less;

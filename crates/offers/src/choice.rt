@@ -1,8 +1,8 @@
 // What the arguments ask for. Keys and names stay where they are: only their places are kept.
 use check::same;
 use desk::say::wrong;
-use flash::part::part_of;
 use run::bound::Bound;
+use slices::part::part_of;
 use types::config::FILE_COUNT;
 
 pub(crate) struct Choice {

@@ -3,7 +3,7 @@ use crate::line::put;
 use desk::say::wrong;
 use digits::hex::Decoded;
 use digits::hex::decode;
-use flash::part::part_of;
+use slices::part::part_of;
 use types::num::least;
 use types::num::less;
 

@@ -1,10 +1,10 @@
 // Where a merge was refused: in which run, and how far into it.
-use flash::part::part_of;
 use run::bound::Bound;
 use run::record::Head;
 use run::record::head_at;
 use run::search::Sought;
 use run::search::search;
+use slices::part::part_of;
 use types::num::least;
 use types::num::less;
 

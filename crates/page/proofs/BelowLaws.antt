@@ -6,7 +6,7 @@ use native.Mathlib.Omega.{arith}
 use lib.ListN.{take, drop}
 use lib.Seq.{take-take, drop-drop}
 use Rattle.types.specs.Bytes.{word}
-use Rattle.flash.specs.Fields.{field}
+use Rattle.slices.specs.Fields.{field}
 
 -- a part that ends at or below e
 pub part-take : (k o e : ℕ) (xs : List ℕ) → o + k ≤ e → take k (drop o (take e xs)) ≡ take k (drop o xs)

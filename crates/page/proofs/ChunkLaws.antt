@@ -12,7 +12,7 @@ use borrow.Author.Tests.{eqb-true, ltb-false, eq-eqb, ne-eqb, lt-ltb, le-ltb}
 use Rattle.types.specs.Build.{pageSize, chunkHeaderSize, maxChunkSize}
 use Rattle.types.proofs.TestLaws.{le-or-lt}
 use Rattle.crc.specs.Published.{published}
-use Rattle.flash.specs.Fields.{field}
+use Rattle.slices.specs.Fields.{field}
 use Rattle.page.specs.Chunks.{chunkMagic, nextOffset, chunkOf, chunkAt, payloadAt, sumChecked, checkedAt}
 use Rattle.page.specs.declared.chunk.Step.{Step}
 use Rattle.page.specs.declared.chunk.Step.the-variants.{End, Corrupted, Chunk}

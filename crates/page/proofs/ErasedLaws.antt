@@ -12,7 +12,7 @@ use borrow.Author.Tests.{eqb-true, eq-eqb, ne-eqb}
 use Rattle.types.specs.Build.{eraseValue}
 use Rattle.types.specs.Bytes.{word}
 use Rattle.types.proofs.TestLaws.{both-true}
-use Rattle.flash.specs.Patch.{blank}
+use Rattle.slices.specs.Patch.{blank}
 use Rattle.page.specs.Chunks.{chunkMagic, chunkAt}
 use Rattle.page.specs.Walks.{allErased}
 use Rattle.page.specs.declared.chunk.Step.the-variants.{End}

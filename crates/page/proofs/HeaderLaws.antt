@@ -10,7 +10,7 @@ use borrow.Author.Tests.{eqb-true, eq-eqb, ne-eqb}
 use Rattle.types.specs.Build.{pageHeaderSize}
 use Rattle.types.proofs.TestLaws.{both-true}
 use Rattle.crc.specs.Published.{published}
-use Rattle.flash.specs.Fields.{field}
+use Rattle.slices.specs.Fields.{field}
 use Rattle.page.specs.Headers.{headerOf, pageHeaderFine}
 use Rattle.page.proofs.BelowLaws.{part-below, field-below}
 

@@ -6,8 +6,8 @@ use Prim.Native.Nat.{ℕ, _+_, _≤_}
 use native.Mathlib.Omega.{arith}
 use lib.ListN.{take, drop}
 use Rattle.types.specs.Build.{chunkHeaderSize}
-use Rattle.flash.specs.Patch.{patch}
-use Rattle.flash.proofs.PatchLaws.{take-patch-below}
+use Rattle.slices.specs.Patch.{patch}
+use Rattle.slices.proofs.PatchLaws.{take-patch-below}
 use Rattle.page.specs.Chunks.{chunkAt, payloadAt, checkedAt}
 use Rattle.page.specs.Walks.{Chunk, Walked, walkFrom}
 use Rattle.page.specs.declared.chunk.Step.the-variants as step

@@ -12,9 +12,9 @@ use Rattle.types.specs.Build.{pageSize, pageHeaderSize, chunkHeaderSize, maxChu
 use Rattle.types.specs.Bytes.{word, bytesOf}
 use Rattle.types.proofs.BytesLaws.{word-bytesOf}
 use Rattle.crc.specs.Published.{published}
-use Rattle.flash.specs.Fields.{field}
-use Rattle.flash.specs.Patch.{patch}
-use Rattle.flash.proofs.PatchLaws.{part-patch, drop-patch-above}
+use Rattle.slices.specs.Fields.{field}
+use Rattle.slices.specs.Patch.{patch}
+use Rattle.slices.proofs.PatchLaws.{part-patch, drop-patch-above}
 use Rattle.page.specs.Chunks.{chunkMagic, nextOffset, chunkHeader, chunkAt, payloadAt, checkedAt}
 use Rattle.page.specs.Headers.{pageHeader, headerOf, pageHeaderFine}
 use Rattle.page.specs.declared.chunk.Step.the-variants.{Chunk}

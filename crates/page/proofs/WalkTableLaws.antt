@@ -2,7 +2,7 @@
 use mathlib.Core.Path.{_≡_, refl}
 use mathlib.Core.List.{map}
 use Rattle.types.specs.Bytes.{word, bytesOf}
-use Rattle.flash.specs.Patch.{over, patch, blank}
+use Rattle.slices.specs.Patch.{over, patch, blank}
 use Rattle.page.specs.Chunks.{chunkHeader, chunkAt}
 use Rattle.page.specs.WalkTable.{WalkCase, walkCases, tooLongWithRoom, walkOutcome}
 

@@ -8,7 +8,7 @@ use lib.ListN.{take, drop}
 use Rattle.types.specs.Build.{pageSize, align, chunkHeaderSize, maxChunkSize}
 use Rattle.types.specs.Bytes.{bytesOf}
 use Rattle.crc.specs.Published.{published}
-use Rattle.flash.specs.Fields.{field}
+use Rattle.slices.specs.Fields.{field}
 use Rattle.page.specs.declared.chunk.Step.{Step}
 use Rattle.page.specs.declared.chunk.Step.the-variants.{End, Corrupted, Chunk}
 

@@ -11,7 +11,7 @@ use Rattle.types.specs.declared.refusal.Refusal.the-variants.{BadHeader}
 use Rattle.types.specs.declared.refusal.Verdict.{Verdict}
 use Rattle.types.specs.declared.refusal.Verdict.the-variants.{Fine, Refused}
 use Rattle.crc.specs.Published.{published}
-use Rattle.flash.specs.Fields.{field}
+use Rattle.slices.specs.Fields.{field}
 
 -- whether h is a multiple of 4 from 0 to 64
 abbrev pub headerFine : ℕ → Bool

@@ -3,7 +3,7 @@
 use mathlib.Core.List.{List, [], _∷_}
 use Prim.Native.Nat.{ℕ}
 use Rattle.types.specs.Build.{pageSize, eraseValue}
-use Rattle.flash.specs.Patch.{patch, blank}
+use Rattle.slices.specs.Patch.{patch, blank}
 use Rattle.page.specs.Chunks.{chunkHeader, chunkAt}
 use Rattle.page.specs.declared.chunk.Step.{Step}
 use Rattle.page.specs.declared.chunk.Step.the-variants.{End, Corrupted, Chunk}

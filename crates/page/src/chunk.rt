@@ -1,10 +1,10 @@
 // The chunk header: mark, length and sum of the payload that follows it.
 use crc::crc32;
-use flash::field::get16;
-use flash::field::get32;
-use flash::field::put16;
-use flash::field::put32;
-use flash::part::part_of;
+use slices::field::get16;
+use slices::field::get32;
+use slices::field::put16;
+use slices::field::put32;
+use slices::part::part_of;
 use types::config::ALIGN;
 use types::config::CHUNK_HEADER_SIZE;
 use types::config::MAX_CHUNK_SIZE;

@@ -1,7 +1,7 @@
 // The page header: magic, page number and sum, then the higher header's h bytes.
 use crc::crc32;
-use flash::field::get32;
-use flash::part::part_of;
+use slices::field::get32;
+use slices::part::part_of;
 use types::config::ALIGN;
 use types::config::MAX_HEADER_SIZE;
 use types::config::PAGE_HEADER_SIZE;

@@ -1,13 +1,13 @@
 // A line for each page: what a new reader finds there, which is what the walk over the page finds (`found-is-walk`).
 use desk::say;
 use flash::geometry::page_of;
-use flash::part::part_of;
 use libc::STDOUT_FILENO;
 use page::chunk::Step;
 use page::chunk::checked_at;
 use page::header::check_header;
 use page::header::page_header_fine;
 use page::walk::all_erased;
+use slices::part::part_of;
 use types::config::ERASE_VALUE;
 use types::config::MAX_HEADER_SIZE;
 use types::config::MAX_PAGE_COUNT;

@@ -12,8 +12,8 @@ use digits::number::Word32;
 use digits::number::decimal_in;
 use digits::number::word32_in;
 use flash::geometry::check_flash;
-use flash::part::part_of;
 use script::space::flash_space;
+use slices::part::part_of;
 use types::page_id::PageID;
 use types::refusal::Verdict;
 

@@ -1,12 +1,12 @@
 // A page's bytes, as a new reader hands them out.
 use desk::say;
-use flash::part::part_of;
 use libc::STDOUT_FILENO;
 use reader::answers::Count;
 use reader::answers::EndTest;
 use reader::answers::Outcome;
 use reader::page_reader::PageReader;
 use script::space::page_space;
+use slices::part::part_of;
 use types::config::MAX_HEADER_SIZE;
 use types::num::least;
 use types::page_id::PageID;

@@ -14,9 +14,9 @@ use Rattle.types.specs.declared.refusal.Refusal.{Refusal}
 use Rattle.types.specs.declared.refusal.Refusal.the-variants as row
 use Rattle.types.specs.declared.refusal.Verdict.the-variants.{Fine, Refused}
 use Rattle.flash.specs.Geometry.{pageStart, pageOf}
-use Rattle.flash.specs.Patch.{over, blank}
+use Rattle.slices.specs.Patch.{over, blank}
 use Rattle.flash.proofs.GeometryLaws.{length-page}
-use Rattle.flash.proofs.PatchLaws.{length-blank}
+use Rattle.slices.proofs.PatchLaws.{length-blank}
 use Rattle.page.specs.Chunks.{nextOffset, chunkAt, payloadAt, checkedAt}
 use Rattle.page.specs.Headers.{pageHeaderFine}
 use Rattle.page.specs.Walks.{Walked, walkFrom}

@@ -13,7 +13,7 @@ use Rattle.types.specs.declared.refusal.Refusal.the-variants as row
 use Rattle.types.specs.declared.refusal.Verdict.the-variants.{Fine, Refused}
 use Rattle.crc.specs.Published.{published}
 use Rattle.flash.specs.Geometry.{pageStart, pageOf}
-use Rattle.flash.specs.Patch.{over}
+use Rattle.slices.specs.Patch.{over}
 use Rattle.flash.proofs.GeometryLaws.{length-page}
 use Rattle.page.specs.Chunks.{payloadAt, checkedAt}
 use Rattle.page.specs.Headers.{headerOf, pageHeaderFine}

@@ -12,7 +12,7 @@ use Rattle.types.specs.declared.refusal.Refusal.the-variants as row
 use Rattle.types.specs.declared.refusal.Verdict.the-variants.{Fine, Refused}
 use Rattle.types.proofs.TestLaws.{decided}
 use Rattle.flash.specs.Geometry.{pageOf}
-use Rattle.flash.specs.Patch.{over}
+use Rattle.slices.specs.Patch.{over}
 use Rattle.reader.specs.Calls.{read, readBytes, skip, isAtEof}
 use Rattle.reader.specs.Checks.{readerVerdict}
 use Rattle.reader.specs.Moves.{Whole, ready, restOf, past, skipped}

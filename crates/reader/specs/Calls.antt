@@ -12,7 +12,7 @@ use Rattle.types.specs.declared.refusal.Verdict.{Verdict}
 use Rattle.types.specs.declared.refusal.Verdict.the-variants.{Fine, Refused}
 use Rattle.crc.specs.Published.{published}
 use Rattle.flash.specs.Geometry.{pageOf}
-use Rattle.flash.specs.Patch.{over}
+use Rattle.slices.specs.Patch.{over}
 use Rattle.page.specs.Chunks.{payloadAt, checkedAt}
 use Rattle.page.specs.Headers.{headerOf, pageHeaderFine}
 use Rattle.reader.specs.Checks.{stateVerdict, openVerdict, readerVerdict}

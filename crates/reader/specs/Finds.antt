@@ -11,7 +11,7 @@ use Rattle.types.specs.declared.refusal.Refusal.the-variants as row
 use Rattle.types.specs.declared.refusal.Verdict.{Verdict}
 use Rattle.types.specs.declared.refusal.Verdict.the-variants.{Fine, Refused}
 use Rattle.crc.specs.Published.{published}
-use Rattle.flash.specs.Patch.{blank}
+use Rattle.slices.specs.Patch.{blank}
 use Rattle.page.specs.Chunks.{payloadAt}
 use Rattle.page.specs.Walks.{Chunk, walkFrom}
 use Rattle.page.specs.declared.walk.Ending.{Ending}

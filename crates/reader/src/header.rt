@@ -2,9 +2,9 @@
 use crate::answers::Outcome;
 use crate::check::check_open;
 use flash::geometry::page_of;
-use flash::part;
 use page::header::header_of;
 use page::header::page_header_fine;
+use slices::part;
 use types::page_id::PageID;
 use types::refusal::Refusal;
 use types::refusal::Verdict;

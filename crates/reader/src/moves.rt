@@ -1,10 +1,10 @@
 // Where a reader goes on its page. The sum of a chunk is checked on arriving there; rehydrate_from checks a kept reader's again.
 use crate::page_reader::PageReader;
-use flash::part::part_of;
 use page::chunk::Step;
 use page::chunk::align_up;
 use page::chunk::checked_at;
 use page::chunk::payload_at;
+use slices::part::part_of;
 use types::config::CHUNK_HEADER_SIZE;
 ghost use mathlib.Core.Path.{_≡_};
 ghost use Prim.Native.Nat.{_+_, _^_, _<_};

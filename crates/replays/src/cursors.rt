@@ -11,11 +11,11 @@ use cursor::place::Cursor;
 use cursor::place::Place;
 use cursor::place::RunPlace;
 use digits::number::Number;
-use flash::part::part_of;
 use run::bound::Bound;
 use script::space::line_space;
 use script::words::word_at;
 use script::words::word_count;
+use slices::part::part_of;
 use types::config::FILE_COUNT;
 use types::num::least;
 

@@ -1,13 +1,13 @@
 // The lines of a script, each answered in turn.
 use crate::line::answer;
 use crate::world::World;
-use flash::part::part_of;
 use libc::STDERR_FILENO;
 use libc::STDIN_FILENO;
 use script::space::flash_space;
 use script::space::runs_space;
 use script::space::script_space;
 use script::words::end_from;
+use slices::part::part_of;
 use types::num::least;
 use types::num::less;
 

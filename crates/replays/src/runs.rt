@@ -5,11 +5,11 @@ use crate::say;
 use crate::world::World;
 use check::same;
 use digits::number::Number;
-use flash::part::part_of;
-use flash::part::put;
 use script::space::line_space;
 use script::words::word_at;
 use script::words::word_count;
+use slices::part::part_of;
+use slices::part::put;
 use types::num::least;
 use types::num::less;
 

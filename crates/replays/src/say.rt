@@ -2,9 +2,9 @@
 use digits::hex::encode;
 use digits::hex::hex32;
 use digits::number::sign_apart;
-use flash::part::part_of;
 use libc::STDOUT_FILENO;
 use script::space::line_space;
+use slices::part::part_of;
 use types::refusal::Refusal;
 
 fn text(bytes: &[u8]) {

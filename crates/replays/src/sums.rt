@@ -4,9 +4,9 @@ use crate::say;
 use crate::world::World;
 use crc::crc32;
 use digits::number::Number;
-use flash::part::part_of;
 use script::space::line_space;
 use script::words::word_count;
+use slices::part::part_of;
 
 pub(crate) fn answer(w: World, line: &[u8]) -> World {
     let mut bytes = line_space();

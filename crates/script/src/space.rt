@@ -1,7 +1,7 @@
 // Room for what a program reads. Their number is said once more for callers, since a list this long is not to be looked into.
 ghost use mathlib.Core.Path.{_≡_};
 ghost use lib.ListN.{length};
-ghost use Rattle.flash.specs.Patch.{blank};
+ghost use Rattle.slices.specs.Patch.{blank};
 
 // Room for a whole script.
 pub fn script_space() -> [u8; 1048576]

@@ -1,7 +1,7 @@
 // Lines and words: a line ends at a newline, a word at a space.
 ghost use mathlib.Core.Path.{_≡_};
 ghost use Rattle.script.specs.Words.{endFrom, wordAt, wordCount};
-use flash::part::part_of;
+use slices::part::part_of;
 use types::num::least;
 use types::num::less;
 

@@ -19,9 +19,9 @@ use Rattle.types.proofs.TestLaws.{decided, eq-or-ne, le-or-lt}
 use Rattle.crc.specs.Register.{finished}
 use Rattle.flash.specs.Geometry.{pageOf}
 use Rattle.flash.specs.Operations.{Op, erase, store, opIf, applied}
-use Rattle.flash.specs.Patch.{blank}
+use Rattle.slices.specs.Patch.{blank}
 use Rattle.flash.proofs.OperationLaws.{applied-append}
-use Rattle.flash.proofs.PatchLaws.{getD-blank}
+use Rattle.slices.proofs.PatchLaws.{getD-blank}
 use Rattle.page.specs.Chunks.{nextOffset}
 use Rattle.page.specs.Headers.{pageHeader}
 use Rattle.page.specs.Walks.{walkEnd, allErased}

@@ -8,8 +8,8 @@ use native.Mathlib.Omega.{arith}
 use lib.ListN.{length, take, drop, length-drop, take-append-drop, drop-of-length-le}
 use lib.Seq.{take-all}
 use Rattle.types.proofs.TestLaws.{le-or-lt}
-use Rattle.flash.specs.Patch.{over, patch}
-use Rattle.flash.proofs.PatchLaws.{patch-past, take-patch-below, drop-patch}
+use Rattle.slices.specs.Patch.{over, patch}
+use Rattle.slices.proofs.PatchLaws.{patch-past, take-patch-below, drop-patch}
 
 -- all from an index on
 pub take-rest : (from : ℕ) (xs : List ℕ) → take (length xs - from) (drop from xs) ≡ drop from xs

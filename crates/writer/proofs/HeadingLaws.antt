@@ -11,10 +11,10 @@ use Rattle.types.proofs.BytesLaws.{length-bytesOf}
 use Rattle.crc.specs.Published.{published}
 use Rattle.flash.specs.Geometry.{pageStart}
 use Rattle.flash.specs.Operations.{erase, store, opIf}
-use Rattle.flash.specs.Patch.{patch, blank}
+use Rattle.slices.specs.Patch.{patch, blank}
 use Rattle.flash.specs.declared.ops.Spent.{Spent}
 use Rattle.flash.proofs.OperationLaws.{Ran, ran-append}
-use Rattle.flash.proofs.PatchLaws.{length-over, length-blank, part-patch, patch-join}
+use Rattle.slices.proofs.PatchLaws.{length-over, length-blank, part-patch, patch-join}
 use Rattle.page.specs.Headers.{pageHeader}
 use Rattle.page.proofs.PutLaws.{length-pageHeader}
 use Rattle.writer.specs.Headings.{headerRoom, headerOps}

@@ -14,7 +14,7 @@ use Rattle.types.specs.Build.{pageSize, align, pageHeaderSize, chunkHeaderSize,
 use Rattle.types.proofs.TestLaws.{decided, both-true, eq-or-ne, le-or-lt}
 use Rattle.crc.specs.Register.{finished}
 use Rattle.flash.specs.Operations.{Op, erase, store, opIf}
-use Rattle.flash.proofs.PatchLaws.{length-over, length-patch}
+use Rattle.slices.proofs.PatchLaws.{length-over, length-patch}
 use Rattle.page.specs.Chunks.{chunkHeader, nextOffset}
 use Rattle.page.specs.Headers.{pageHeader}
 use Rattle.page.proofs.PutLaws.{length-chunkHeader, length-pageHeader}

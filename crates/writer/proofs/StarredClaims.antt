@@ -5,7 +5,7 @@ use mathlib.Core.List.{map}
 use Rattle.types.specs.Bytes.{word, bytesOf}
 use Rattle.crc.specs.Published as crc
 use Rattle.crc.specs.Register.{tap, stepped, steps, taken, updated}
-use Rattle.flash.specs.Patch.{over, patch, blank}
+use Rattle.slices.specs.Patch.{over, patch, blank}
 use Rattle.page.specs.Chunks.{chunkHeader, chunkAt}
 use Rattle.page.specs.Headers.{pageHeader}
 use Rattle.page.specs.Walks.{walk, walkFrom, allErased}

@@ -9,8 +9,8 @@ use lib.ListN.{length, take, drop, getD, length-take}
 use lib.Seq.{getD-take, getD-drop}
 use Rattle.types.specs.Build.{pageSize}
 use Rattle.flash.specs.Operations.{Op, erase, store, opIf, made, applied}
-use Rattle.flash.specs.Patch.{patch}
-use Rattle.flash.proofs.PatchLaws.{patch-above, take-patch-below, drop-patch-above}
+use Rattle.slices.specs.Patch.{patch}
+use Rattle.slices.proofs.PatchLaws.{patch-above, take-patch-below, drop-patch-above}
 use Rattle.page.proofs.BelowLaws.{take-below, drop-above}
 
 -- ---- stores one behind the other, from a on and no further than b

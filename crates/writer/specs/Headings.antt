@@ -4,7 +4,7 @@ use mathlib.Core.List.{List, [], _∷_, _++_}
 use Prim.Native.Nat.{ℕ, _+_}
 use Rattle.types.specs.Build.{pageHeaderSize, maxHeaderSize}
 use Rattle.flash.specs.Operations.{Op, store}
-use Rattle.flash.specs.Patch.{over, blank}
+use Rattle.slices.specs.Patch.{over, blank}
 use Rattle.page.specs.Headers.{pageHeader}
 use Rattle.writer.specs.Commits.{eraseOps}
 use Rattle.writer.specs.declared.page_writer.PageWriter.{PageWriter}

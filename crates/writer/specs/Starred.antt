@@ -7,7 +7,7 @@ use lib.ListN.{length, take, drop, replicate}
 use Rattle.types.specs.Answers.{Told, answered}
 use Rattle.types.specs.Build.{pageSize}
 use Rattle.flash.specs.Operations.{Op, erase, store}
-use Rattle.flash.specs.Patch.{blank}
+use Rattle.slices.specs.Patch.{blank}
 use Rattle.writer.specs.Calls.{Call, openPage, openAppend, writeHeader, write, commit, World, answerTo, madeBy, leftBy, leftAfter}
 use Rattle.writer.specs.States.{newWriter}
 

@@ -8,7 +8,7 @@ use lib.ListN.{length, take, drop}
 use Rattle.types.specs.Build.{pageSize, align, chunkHeaderSize, maxChunkSize}
 use Rattle.crc.specs.Register.{updated}
 use Rattle.flash.specs.Operations.{Op, store, opIf}
-use Rattle.flash.specs.Patch.{over, patch}
+use Rattle.slices.specs.Patch.{over, patch}
 use Rattle.page.specs.Chunks.{alignUp}
 use Rattle.writer.specs.Commits.{inGroup, payloadFrom, groupAt, eraseOps, chunkOps, nextChunk}
 use Rattle.writer.specs.declared.page_writer.PageWriter.{PageWriter}

@@ -1,8 +1,8 @@
 // Bytes laid into a lent buffer.
-use flash::part::put;
+use slices::part::put;
 use types::num::least;
 ghost use mathlib.Core.Path.{_≡_};
-ghost use Rattle.flash.specs.Patch.{patch};
+ghost use Rattle.slices.specs.Patch.{patch};
 
 // Puts the bytes into the buffer from an index on, as far as they fit.
 pub(crate) fn lay(buffer: &mut [u8], at: usize, bytes: &[u8])

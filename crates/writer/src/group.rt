@@ -4,7 +4,7 @@ use super::page_writer::PageWriter;
 use types::config::ALIGN;
 use types::num::least;
 ghost use mathlib.Core.Path.{_≡_};
-ghost use Rattle.flash.specs.Patch.{patch};
+ghost use Rattle.slices.specs.Patch.{patch};
 ghost use Rattle.writer.specs.Writes.{lacking, toGroup, toWhole, groupOf, bufferOf};
 
 // What the group lacks that is not finished.

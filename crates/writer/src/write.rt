@@ -16,7 +16,7 @@ use crc::register::Crc32;
 use flash::ops::Spent;
 use flash::ops::erase_if;
 use flash::ops::store_if;
-use flash::part::part_of;
+use slices::part::part_of;
 use types::config::ALIGN;
 use types::config::CHUNK_HEADER_SIZE;
 use types::config::ERASE_VALUE;

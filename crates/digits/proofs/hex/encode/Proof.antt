@@ -4,8 +4,8 @@ use Prim.Native.Nat.{_-_, _*_, _/_, _≤_, min}
 use native.Mathlib.Omega.{arith}
 use borrow.Author.Needs.{needs}
 use lib.ListN.{length, take, length-set}
-use Rattle.flash.specs.Patch.{over}
-use Rattle.flash.proofs.PatchLaws.{put-start}
+use Rattle.slices.specs.Patch.{over}
+use Rattle.slices.proofs.PatchLaws.{put-start}
 use Rattle.digits.specs.Hex.{hexOf}
 use Rattle.digits.proofs.HexLaws.{encode-turn, encode-end}
 use Rattle.digits.proofs.hex.encode.Statement.{statement}

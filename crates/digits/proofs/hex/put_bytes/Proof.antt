@@ -5,8 +5,8 @@ use Prim.Native.Nat.{ℕ, _-_, _/_, _≤_}
 use native.Mathlib.Omega.{arith}
 use borrow.Author.Needs.{needs}
 use lib.ListN.{length, take, getD, set, length-set}
-use Rattle.flash.specs.Patch.{over}
-use Rattle.flash.proofs.PatchLaws.{put-start, put-turn, put-end}
+use Rattle.slices.specs.Patch.{over}
+use Rattle.slices.proofs.PatchLaws.{put-start, put-turn, put-end}
 use Rattle.digits.specs.Hex.{bytesIn}
 use Rattle.digits.proofs.HexLaws.{length-bytesIn, bytesIn-at}
 use Rattle.digits.proofs.hex.put_bytes.Statement.{statement}

@@ -1,6 +1,6 @@
 -- `script::space::page_space` meets its contract. Assumes nothing.
 use mathlib.Core.Path.{refl}
-use Rattle.flash.specs.Patch.{blank}
+use Rattle.slices.specs.Patch.{blank}
 use Rattle.script.proofs.space.page_space.Statement.{statement}
 use Rattle.script.proofs.space.page_space.Tie as tie
 

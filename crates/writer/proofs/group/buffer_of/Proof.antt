@@ -1,6 +1,6 @@
 -- `writer::group::buffer_of` meets its contract. Assumes nothing.
 use mathlib.Core.Path.{_∙_}
-use Rattle.flash.specs.Patch.{patch}
+use Rattle.slices.specs.Patch.{patch}
 use Rattle.writer.specs.Writes.{bufferOf}
 use Rattle.writer.proofs.GroupLaws.{take-rest}
 use borrow.Author.Needs.{needs}

@@ -1,6 +1,6 @@
 -- `writer::heading::page_header` meets its contract. Assumes nothing.
 use mathlib.Core.Path.{_∙_}
-use Rattle.flash.specs.Patch.{blank}
+use Rattle.slices.specs.Patch.{blank}
 use Rattle.writer.proofs.HeadingLaws.{room-laid}
 use borrow.Author.Needs.{needs}
 use Rattle.writer.proofs.heading.page_header.Statement.{statement}

@@ -1,10 +1,10 @@
--- `flash::part::part_of` meets its contract. Assumes nothing.
+-- `slices::part::part_of` meets its contract. Assumes nothing.
 use mathlib.Core.Path.{ap, _∙_}
 use Prim.Native.Nat.{ℕ, _+_, min}
-use Rattle.flash.proofs.GeometryLaws.{part-lent}
+use Rattle.slices.proofs.PartLaws.{part-lent}
 use borrow.Author.Needs.{needs}
-use Rattle.flash.proofs.part.part_of.Statement.{statement}
-use Rattle.flash.proofs.part.part_of.Tie as tie
+use Rattle.slices.proofs.part.part_of.Statement.{statement}
+use Rattle.slices.proofs.part.part_of.Tie as tie
 
 least-requires : tie.Need-least-requires
 least-requires c κs = search needs

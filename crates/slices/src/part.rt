@@ -1,11 +1,11 @@
-// Parts of lent bytes: any part can be asked for, and a part of the flash is lent on to a store or an erase.
+// Parts of lent bytes: any part can be asked for, and bytes are put over a part as far as they fit.
 use types::num::least;
 use types::num::less;
 ghost use mathlib.Core.Path.{_≡_};
 ghost use lib.ListN.{length, take, drop};
-ghost use Rattle.flash.specs.Patch.{over, blank};
+ghost use Rattle.slices.specs.Patch.{over, blank};
 
-// The bytes from an index on, so many of them as there are up to a number.
+// At most `count` bytes starting at `from`; fewer if the slice ends first.
 pub fn part_of(bytes: &[u8], from: usize, count: usize) -> &[u8]
     ensures answers { λ r. ⌜ now r ≡ take count (drop from (now (bytes .entry))) ⌝ }
 {

@@ -1,9 +1,9 @@
--- `flash::field::join32` meets its contract. Assumes nothing.
+-- `slices::field::join32` meets its contract. Assumes nothing.
 use native.Mathlib.Omega.{arith}
 use Rattle.types.specs.Bytes.{word}
 use borrow.Author.Needs.{needs}
-use Rattle.flash.proofs.field.join32.Statement.{statement}
-use Rattle.flash.proofs.field.join32.Tie as tie
+use Rattle.slices.proofs.field.join32.Statement.{statement}
+use Rattle.slices.proofs.field.join32.Tie as tie
 
 mul-result : tie.Need-mul-result
 mul-result c = search needs

@@ -9,9 +9,9 @@ use lib.ListN.{length, take, drop, getD, length-drop, List·getD-eq-default}
 use lib.Seq.{drop-drop, getD-drop}
 use Rattle.types.specs.Bytes.{word, bytesOf}
 use Rattle.types.proofs.BytesLaws.{length-bytesOf, word-bytesOf}
-use Rattle.flash.specs.Fields.{field}
-use Rattle.flash.specs.Patch.{patch}
-use Rattle.flash.proofs.PatchLaws.{part-patch}
+use Rattle.slices.specs.Fields.{field}
+use Rattle.slices.specs.Patch.{patch}
+use Rattle.slices.proofs.PatchLaws.{part-patch}
 
 -- past the end there is nothing
 pub past-end : (at k : ℕ) (xs : List ℕ) → length xs ≤ at + k → 0 ≡ getD (drop at xs) k 0

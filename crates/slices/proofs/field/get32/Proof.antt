@@ -1,10 +1,10 @@
--- `flash::field::get32` meets its contract. Assumes nothing.
+-- `slices::field::get32` meets its contract. Assumes nothing.
 use mathlib.Core.Path.{_∙_}
 use lib.ListN.{drop}
-use Rattle.flash.proofs.FieldLaws.{elements, word-elements}
+use Rattle.slices.proofs.FieldLaws.{elements, word-elements}
 use borrow.Author.Needs.{needs}
-use Rattle.flash.proofs.field.get32.Statement.{statement}
-use Rattle.flash.proofs.field.get32.Tie as tie
+use Rattle.slices.proofs.field.get32.Statement.{statement}
+use Rattle.slices.proofs.field.get32.Tie as tie
 
 byte-requires : tie.Need-byte-requires
 byte-requires c κs = search needs

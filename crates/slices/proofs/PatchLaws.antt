@@ -9,7 +9,7 @@ use native.Mathlib.Omega.{arith}
 use lib.ListN.{length, take, drop, getD, set, replicate, length-replicate, getD-replicate, replicate-append-replicate}
 use lib.Seq.{take-nil, take-all, drop-length, drop-cons, set-at, append-snoc}
 use Rattle.types.proofs.TestLaws.{le-or-lt}
-use Rattle.flash.specs.Patch.{over, patch, blank}
+use Rattle.slices.specs.Patch.{over, patch, blank}
 
 -- ---- over
 

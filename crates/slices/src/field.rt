@@ -3,7 +3,7 @@ ghost use mathlib.Core.Path.{_≡_};
 ghost use mathlib.Core.List.{[], _∷_};
 ghost use lib.ListN.{getD, drop};
 ghost use Rattle.types.specs.Bytes.{word, bytesOf};
-ghost use Rattle.flash.specs.Fields.{field};
+ghost use Rattle.slices.specs.Fields.{field};
 
 // The k-th byte from `at` on, or 0 past the end.
 fn byte(bytes: &[u8], at: usize, k: usize) -> u8

@@ -1,14 +1,14 @@
--- `flash::part::wipe` meets its contract: after i turns i bytes are set, and the rest is as it was. Assumes nothing.
+-- `slices::part::wipe` meets its contract: after i turns i bytes are set, and the rest is as it was. Assumes nothing.
 use Prim.Native.Nat.{_-_, _≤_}
 use mathlib.Core.Path.{_≡_, refl, ap, _∙_}
 use mathlib.Core.List.{List, _++_}
 use Prim.Native.Nat.{ℕ}
 use native.Mathlib.Omega.{arith}
 use lib.ListN.{length, drop, set, length-set}
-use Rattle.flash.specs.Patch.{blank}
-use Rattle.flash.proofs.PatchLaws.{wipe-start, wipe-turn, wipe-end}
-use Rattle.flash.proofs.part.wipe.Statement.{statement}
-use Rattle.flash.proofs.part.wipe.Tie as tie
+use Rattle.slices.specs.Patch.{blank}
+use Rattle.slices.proofs.PatchLaws.{wipe-start, wipe-turn, wipe-end}
+use Rattle.slices.proofs.part.wipe.Statement.{statement}
+use Rattle.slices.proofs.part.wipe.Tie as tie
 
 abbrev Inv-loop : tie.InvT-loop
 Inv-loop part₀ value i₀ i-end part i = (i-end ≡ length part₀) × ((i ≤ length part₀) × ((length part ≡ length part₀) × (part ≡ blank value i ++ drop i part₀)))

@@ -1,9 +1,9 @@
--- `flash::field::put32` meets its contract. Assumes nothing.
+-- `slices::field::put32` meets its contract. Assumes nothing.
 use mathlib.Core.Path.{refl}
 use Rattle.types.specs.Bytes.{bytesOf}
 use borrow.Author.Needs.{needs}
-use Rattle.flash.proofs.field.put32.Statement.{statement}
-use Rattle.flash.proofs.field.put32.Tie as tie
+use Rattle.slices.proofs.field.put32.Statement.{statement}
+use Rattle.slices.proofs.field.put32.Tie as tie
 
 cast-t3 : tie.Need-cast-t3
 cast-t3 c = search needs

@@ -1,11 +1,11 @@
--- `flash::field::byte` meets its contract. Assumes nothing.
+-- `slices::field::byte` meets its contract. Assumes nothing.
 use mathlib.Core.Path.{sym}
 use native.Mathlib.Omega.{arith}
 use borrow.Author.Needs.{needs}
 use lib.Seq.{getD-drop}
-use Rattle.flash.proofs.FieldLaws.{past-end}
-use Rattle.flash.proofs.field.byte.Statement.{statement}
-use Rattle.flash.proofs.field.byte.Tie as tie
+use Rattle.slices.proofs.FieldLaws.{past-end}
+use Rattle.slices.proofs.field.byte.Statement.{statement}
+use Rattle.slices.proofs.field.byte.Tie as tie
 
 sub-if2 : tie.Need-sub-if2
 sub-if2 c = search needs

@@ -1,9 +1,9 @@
--- `flash::field::put16` meets its contract. Assumes nothing.
+-- `slices::field::put16` meets its contract. Assumes nothing.
 use mathlib.Core.Path.{refl}
 use borrow.Author.Needs.{needs}
 use Rattle.types.specs.Bytes.{bytesOf}
-use Rattle.flash.proofs.field.put16.Statement.{statement}
-use Rattle.flash.proofs.field.put16.Tie as tie
+use Rattle.slices.proofs.field.put16.Statement.{statement}
+use Rattle.slices.proofs.field.put16.Tie as tie
 
 cast-low : tie.Need-cast-low
 cast-low c = search needs

@@ -1,14 +1,14 @@
--- `flash::part::put` meets its contract: after i turns the first i bytes are put. Assumes nothing.
+-- `slices::part::put` meets its contract: after i turns the first i bytes are put. Assumes nothing.
 use Prim.Native.Nat.{ℕ, _-_, _≤_, min}
 use mathlib.Core.Path.{_≡_, refl, ap, _∙_}
 use mathlib.Core.List.{List}
 use native.Mathlib.Omega.{arith}
 use borrow.Author.Needs.{needs}
 use lib.ListN.{length, take, getD, set, length-set}
-use Rattle.flash.specs.Patch.{over}
-use Rattle.flash.proofs.PatchLaws.{put-start, put-turn, put-end}
-use Rattle.flash.proofs.part.put.Statement.{statement}
-use Rattle.flash.proofs.part.put.Tie as tie
+use Rattle.slices.specs.Patch.{over}
+use Rattle.slices.proofs.PatchLaws.{put-start, put-turn, put-end}
+use Rattle.slices.proofs.part.put.Statement.{statement}
+use Rattle.slices.proofs.part.put.Tie as tie
 
 abbrev Inv-loop : tie.InvT-loop
 Inv-loop part₀ bytes n i₀ part i = (i ≤ n) × ((n ≡ min (length bytes) (length part₀)) × ((length part ≡ length part₀) × (part ≡ over (take i bytes) part₀)))

@@ -1,0 +1,3 @@
+pub mod FieldLaws
+pub mod PartLaws
+pub mod PatchLaws

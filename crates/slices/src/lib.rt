@@ -1,0 +1,3 @@
+// Parts of lent bytes, and the numbers in them.
+pub mod field;
+pub mod part;
