@@ -1,11 +1,15 @@
 -- Who looks only below an offset, or only from one on, finds the same in lists that agree there. Assumes nothing.
 use mathlib.Core.Path.{_≡_, refl, sym, ap, _∙_}
 use mathlib.Core.List.{List, [], _∷_}
-use Prim.Native.Nat.{ℕ, zero, suc, _+_, _-_, _≤_}
+use mathlib.Core.Logic.{⊎-elim}
+use Prim.Native.Nat.{ℕ, zero, suc, _+_, _-_, _≤_, _<_, min}
 use native.Mathlib.Omega.{arith}
-use lib.ListN.{take, drop}
+use lib.Dec.{leb, ltb}
+use lib.ListN.{length, take, drop, length-take, length-drop}
 use lib.Seq.{take-take, drop-drop}
+use borrow.Author.Tests.{lt-ltb, le-ltb, le-leb, lt-leb}
 use Rattle.types.specs.Bytes.{word}
+use Rattle.types.proofs.TestLaws.{le-or-lt}
 use Rattle.slices.specs.Fields.{field}
 
 -- a part that ends at or below e
@@ -33,3 +37,31 @@ drop-above s o p q h a =
 
 pub field-above : (k s o : ℕ) (p q : List ℕ) → s ≤ o → drop s q ≡ drop s p → field k q o ≡ field k p o
 field-above k s o p q h a = ap (λ (l : List ℕ). word (take k l)) (drop-above s o p q h a)
+
+-- ---- whether there are n bytes
+
+-- two lengths that pass n alike
+tests-alike : (n k l : ℕ) → (n ≤ k → n ≤ l) → (n ≤ l → n ≤ k) → (ltb k n ≡ ltb l n) × (leb n k ≡ leb n l)
+tests-alike n k l f g =
+    ⊎-elim
+    (λ (h : n ≤ k). (le-ltb k n h ∙ sym (le-ltb l n (f h)), le-leb n k h ∙ sym (le-leb n l (f h))))
+    (λ (h : k < n).
+    let less : l < n = ⊎-elim (λ (j : n ≤ l). absurd (omega (arith, g j))) (λ (j : l < n). j) (le-or-lt n l) in
+    (lt-ltb k n h ∙ sym (lt-ltb l n less), lt-leb n k h ∙ sym (lt-leb n l less)))
+    (le-or-lt n k)
+
+alike-below : (n e : ℕ) (p q : List ℕ) → n ≤ e → take e q ≡ take e p → (ltb (length q) n ≡ ltb (length p) n) × (leb n (length q) ≡ leb n (length p))
+alike-below n e p q h a =
+    let same : min e (length q) ≡ min e (length p) = simp length-take at (ap length a) in
+    tests-alike n (length q) (length p) (λ k. omega arith) (λ k. omega arith)
+
+pub shorter-below : (n e : ℕ) (p q : List ℕ) → n ≤ e → take e q ≡ take e p → ltb (length q) n ≡ ltb (length p) n
+shorter-below n e p q h a = alike-below n e p q h a .0
+
+pub longer-below : (n e : ℕ) (p q : List ℕ) → n ≤ e → take e q ≡ take e p → leb n (length q) ≡ leb n (length p)
+longer-below n e p q h a = alike-below n e p q h a .1
+
+pub shorter-above : (s n : ℕ) (p q : List ℕ) → s < n → drop s q ≡ drop s p → ltb (length q) n ≡ ltb (length p) n
+shorter-above s n p q h a =
+    let same : length q - s ≡ length p - s = simp length-drop at (ap length a) in
+    tests-alike n (length q) (length p) (λ k. omega arith) (λ k. omega arith) .0

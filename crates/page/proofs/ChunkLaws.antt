@@ -6,17 +6,17 @@ use mathlib.Core.Logic.{⊎-elim}
 use Prim.Native.Nat.{ℕ, _+_, _≤_, _<_}
 use native.Mathlib.Omega.{arith}
 use lib.Dec.{eqb, ltb}
-use lib.ListN.{length, take, drop, length-drop}
+use lib.ListN.{length, take, drop, length-take, length-drop}
 use lib.Seq.{take-all, drop-drop}
 use borrow.Author.Tests.{eqb-true, ltb-false, eq-eqb, ne-eqb, lt-ltb, le-ltb}
 use Rattle.types.specs.Build.{pageSize, chunkHeaderSize, maxChunkSize}
-use Rattle.types.proofs.TestLaws.{le-or-lt}
+use Rattle.types.proofs.TestLaws.{both-true, le-or-lt}
 use Rattle.crc.specs.Published.{published}
 use Rattle.slices.specs.Fields.{field}
-use Rattle.page.specs.Chunks.{chunkMagic, nextOffset, chunkOf, chunkAt, payloadAt, sumChecked, checkedAt}
+use Rattle.page.specs.Chunks.{chunkMagic, nextOffset, chunkOf, chunkAt, payloadAt, payloadFine, sumChecked, checkedAt}
 use Rattle.page.specs.declared.chunk.Step.{Step}
 use Rattle.page.specs.declared.chunk.Step.the-variants.{End, Corrupted, Chunk}
-use Rattle.page.proofs.BelowLaws.{field-below, field-above}
+use Rattle.page.proofs.BelowLaws.{field-below, field-above, shorter-below, shorter-above}
 
 -- ---- from the tests to what stands at o
 
@@ -25,15 +25,25 @@ module _ (page : List ℕ) (o : ℕ) where
   unfolding chunkAt
   chunk-past h = rw (lt-ltb 4096 (o + 8) h)
 
+  -- a header that is not all there
+  pub chunk-short : length page < o + chunkHeaderSize → chunkAt page o ≡ End
+  unfolding chunkAt
+  chunk-short h =
+      ⊎-elim (λ room. rw (le-ltb 4096 (o + 8) room, lt-ltb (length page) (o + 8) h)) chunk-past (le-or-lt (o + 8) 4096)
+
   pub chunk-unmarked : (field 2 page o ≡ chunkMagic → ⊥) → chunkAt page o ≡ End
   unfolding chunkAt
   chunk-unmarked n =
-      ⊎-elim (λ h. rw (le-ltb 4096 (o + 8) h, ne-eqb (field 2 page o) chunkMagic n)) chunk-past (le-or-lt (o + 8) 4096)
+      ⊎-elim
+      (λ room.
+      ⊎-elim (λ there. rw (le-ltb 4096 (o + 8) room, le-ltb (length page) (o + 8) there, ne-eqb (field 2 page o) chunkMagic n)) chunk-short
+      (le-or-lt (o + 8) (length page)))
+      chunk-past (le-or-lt (o + 8) 4096)
 
-  module _ (room : o + chunkHeaderSize ≤ pageSize) (mark : field 2 page o ≡ chunkMagic) where
+  module _ (room : o + chunkHeaderSize ≤ pageSize) (there : o + chunkHeaderSize ≤ length page) (mark : field 2 page o ≡ chunkMagic) where
     pub chunk-marked : chunkAt page o ≡ chunkOf o (field 2 page (o + 2)) (field 4 page (o + 4))
     unfolding chunkAt
-    chunk-marked = rw (le-ltb 4096 (o + 8) room, eq-eqb (field 2 page o) chunkMagic mark)
+    chunk-marked = rw (le-ltb 4096 (o + 8) room, le-ltb (length page) (o + 8) there, eq-eqb (field 2 page o) chunkMagic mark)
 
     pub chunk-long : maxChunkSize < field 2 page (o + 2) → chunkAt page o ≡ Corrupted
     chunk-long h = chunk-marked ∙ rw (lt-ltb 4076 (field 2 page (o + 2)) h)
@@ -49,6 +59,7 @@ module _ (page : List ℕ) (o : ℕ) where
 
 -- what a chunk at o says of the page
 pub record Found (page : List ℕ) (o len crc next : ℕ) : Type 0 where
+  pub there : o + chunkHeaderSize ≤ length page
   pub mark : field 2 page o ≡ chunkMagic
   pub long : field 2 page (o + 2) ≡ len
   pub sum : field 4 page (o + 4) ≡ crc
@@ -56,28 +67,30 @@ pub record Found (page : List ℕ) (o len crc next : ℕ) : Type 0 where
   pub fits : o + chunkHeaderSize + len ≤ pageSize
   pub after : next ≡ nextOffset o len
 
-passed : (past marked long over : Bool) (a b c len crc next : ℕ)
-    → cond past End (cond marked (cond long Corrupted (cond over Corrupted (Chunk a b c))) End) ≡ Chunk len crc next
-    → ((marked ≡ true) × ((long ≡ false) × (over ≡ false))) × ((a ≡ len) × ((b ≡ crc) × (c ≡ next)))
-passed true marked long over a b c len crc next e = let z : _≡_ {A = ℕ} 0 1 = cc in absurd (omega arith)
-passed false false long over a b c len crc next e = let z : _≡_ {A = ℕ} 0 1 = cc in absurd (omega arith)
-passed false true true over a b c len crc next e = let z : _≡_ {A = ℕ} 0 1 = cc in absurd (omega arith)
-passed false true false true a b c len crc next e = let z : _≡_ {A = ℕ} 0 1 = cc in absurd (omega arith)
-passed false true false false a b c len crc next e = ((refl, (refl, refl)), (cc, (cc, cc)))
+passed : (past short marked long over : Bool) (a b c len crc next : ℕ)
+    → cond past End (cond short End (cond marked (cond long Corrupted (cond over Corrupted (Chunk a b c))) End)) ≡ Chunk len crc next
+    → ((short ≡ false) × ((marked ≡ true) × ((long ≡ false) × (over ≡ false)))) × ((a ≡ len) × ((b ≡ crc) × (c ≡ next)))
+passed true short marked long over a b c len crc next e = let z : _≡_ {A = ℕ} 0 1 = cc in absurd (omega arith)
+passed false true marked long over a b c len crc next e = let z : _≡_ {A = ℕ} 0 1 = cc in absurd (omega arith)
+passed false false false long over a b c len crc next e = let z : _≡_ {A = ℕ} 0 1 = cc in absurd (omega arith)
+passed false false true true over a b c len crc next e = let z : _≡_ {A = ℕ} 0 1 = cc in absurd (omega arith)
+passed false false true false true a b c len crc next e = let z : _≡_ {A = ℕ} 0 1 = cc in absurd (omega arith)
+passed false false true false false a b c len crc next e = ((refl, (refl, (refl, refl))), (cc, (cc, cc)))
 
 pub chunk-found : (page : List ℕ) (o len crc next : ℕ) → chunkAt page o ≡ Chunk len crc next → Found page o len crc next
 unfolding chunkAt
 chunk-found page o len crc next e =
     let l = field 2 page (o + 2) in
     let p =
-    passed (ltb 4096 (o + 8)) (eqb (field 2 page o) chunkMagic) (ltb 4076 l) (ltb 4096 (o + 8 + l)) l (field 4 page (o + 4)) (nextOffset o l) len crc next e in
+    passed (ltb 4096 (o + 8)) (ltb (length page) (o + 8)) (eqb (field 2 page o) chunkMagic) (ltb 4076 l) (ltb 4096 (o + 8 + l)) l (field 4 page (o + 4)) (nextOffset o l) len crc next e in
     let f : l ≡ len = p .1 .0 in
     record {
-      mark = eqb-true (field 2 page o) chunkMagic (p .0 .0);
+      there = ltb-false (length page) (o + 8) (p .0 .0);
+      mark = eqb-true (field 2 page o) chunkMagic (p .0 .1 .0);
       long = f;
       sum = p .1 .1 .0;
-      small = rw f at (ltb-false 4076 l (p .0 .1 .0));
-      fits = rw f at (ltb-false 4096 (o + 8 + l) (p .0 .1 .1));
+      small = rw f at (ltb-false 4076 l (p .0 .1 .1 .0));
+      fits = rw f at (ltb-false 4096 (o + 8 + l) (p .0 .1 .1 .1));
       after = sym (p .1 .1 .1) ∙ ap (nextOffset o) f;
     }
 
@@ -98,7 +111,7 @@ chunk-below o e p q h a =
     let f = field-below 2 o e p q (omega arith) a in
     let g = field-below 2 (o + 2) e p q (omega arith) a in
     let k = field-below 4 (o + 4) e p q (omega arith) a in
-    rw (f, g, k)
+    rw (shorter-below (o + 8) e p q h a, f, g, k)
 
 pub chunk-above : (s o : ℕ) (p q : List ℕ) → s ≤ o → drop s q ≡ drop s p → chunkAt q o ≡ chunkAt p o
 unfolding chunkAt
@@ -106,7 +119,7 @@ chunk-above s o p q h a =
     let f = field-above 2 s o p q h a in
     let g = field-above 2 s (o + 2) p q (omega arith) a in
     let k = field-above 4 s (o + 4) p q (omega arith) a in
-    rw (f, g, k)
+    rw (shorter-above s (o + 8) p q (omega arith) a, f, g, k)
 
 -- ---- the sum
 
@@ -118,34 +131,49 @@ pub checked-bad : (page : List ℕ) (o : ℕ) → chunkAt page o ≡ Corrupted �
 unfolding checkedAt
 checked-bad page o e = rw e
 
-pub checked-right : (page : List ℕ) (o len crc next : ℕ) → chunkAt page o ≡ Chunk len crc next → published (payloadAt page o len) ≡ crc
-    → checkedAt page o ≡ Chunk len crc next
+pub checked-right : (page : List ℕ) (o len crc next : ℕ) → chunkAt page o ≡ Chunk len crc next → payloadFine page o len crc ≡ true → checkedAt page o ≡ Chunk len crc next
 unfolding checkedAt
-checked-right page o len crc next e s = rw e (rw (eq-eqb (published (payloadAt page o len)) crc s))
+checked-right page o len crc next e s = rw e (rw s)
 
-pub checked-wrong : (page : List ℕ) (o len crc next : ℕ) → chunkAt page o ≡ Chunk len crc next → (published (payloadAt page o len) ≡ crc → ⊥)
-    → checkedAt page o ≡ Corrupted
+pub checked-wrong : (page : List ℕ) (o len crc next : ℕ) → chunkAt page o ≡ Chunk len crc next → payloadFine page o len crc ≡ false → checkedAt page o ≡ Corrupted
 unfolding checkedAt
-checked-wrong page o len crc next e s = rw e (rw (ne-eqb (published (payloadAt page o len)) crc s))
+checked-wrong page o len crc next e s = rw e (rw s)
 
--- a chunk that passes has a good header and the right sum
-pub checked-found : (page : List ℕ) (o len crc next : ℕ) → checkedAt page o ≡ Chunk len crc next
-    → (chunkAt page o ≡ Chunk len crc next) × (published (payloadAt page o len) ≡ crc)
+-- a payload that is fine has the right sum
+pub fine-sum : (page : List ℕ) (o len crc : ℕ) → payloadFine page o len crc ≡ true → published (payloadAt page o len) ≡ crc
+fine-sum page o len crc f = eqb-true (published (payloadAt page o len)) crc
+    (both-true (eqb (length (payloadAt page o len)) len) (eqb (published (payloadAt page o len)) crc) f .1)
+
+-- and a right sum over a payload that is there is fine
+pub sum-fine : (page : List ℕ) (o len crc : ℕ) → o + chunkHeaderSize + len ≤ length page → published (payloadAt page o len) ≡ crc → payloadFine page o len crc ≡ true
+sum-fine page o len crc there s =
+    let whole : length (payloadAt page o len) ≡ len = simp (length-take, length-drop) (omega arith) in
+    rw (eq-eqb (length (payloadAt page o len)) len whole, eq-eqb (published (payloadAt page o len)) crc s)
+
+-- a chunk that passes has a good header and a payload that is fine
+pub checked-fine : (page : List ℕ) (o len crc next : ℕ) → checkedAt page o ≡ Chunk len crc next
+    → (chunkAt page o ≡ Chunk len crc next) × (payloadFine page o len crc ≡ true)
 unfolding checkedAt
-checked-found page o len crc next e = by (chunkAt page o) e
+checked-fine page o len crc next e = by (chunkAt page o) e
   where
-    right : (a b c : ℕ) (t : Bool) → eqb (published (payloadAt page o a)) b ≡ t → cond t (Chunk a b c) Corrupted ≡ Chunk len crc next
-        → (Chunk a b c ≡ Chunk len crc next) × (published (payloadAt page o len) ≡ crc)
+    right : (a b c : ℕ) (t : Bool) → payloadFine page o a b ≡ t → cond t (Chunk a b c) Corrupted ≡ Chunk len crc next
+        → (Chunk a b c ≡ Chunk len crc next) × (payloadFine page o len crc ≡ true)
     right a b c true t e =
         let f : a ≡ len = cc in
         let g : b ≡ crc = cc in
-        (e, rw (f, g) at (eqb-true (published (payloadAt page o a)) b t))
+        (e, rw (f, g) at t)
     right a b c false t e = let z : _≡_ {A = ℕ} 0 1 = cc in absurd (omega arith)
 
-    by : (s : Step) → sumChecked page o s ≡ Chunk len crc next → (s ≡ Chunk len crc next) × (published (payloadAt page o len) ≡ crc)
+    by : (s : Step) → sumChecked page o s ≡ Chunk len crc next → (s ≡ Chunk len crc next) × (payloadFine page o len crc ≡ true)
     by End e = let z : _≡_ {A = ℕ} 0 1 = cc in absurd (omega arith)
     by Corrupted e = let z : _≡_ {A = ℕ} 0 1 = cc in absurd (omega arith)
-    by (Chunk a b c) e = right a b c (eqb (published (payloadAt page o a)) b) refl e
+    by (Chunk a b c) e = right a b c (payloadFine page o a b) refl e
+
+pub checked-found : (page : List ℕ) (o len crc next : ℕ) → checkedAt page o ≡ Chunk len crc next
+    → (chunkAt page o ≡ Chunk len crc next) × (published (payloadAt page o len) ≡ crc)
+checked-found page o len crc next e =
+    let f = checked-fine page o len crc next e in
+    (f .0, fine-sum page o len crc (f .1))
 
 -- a part of a part, which the payload is
 pub payload-part : (page : List ℕ) (o len : ℕ) → take len (drop chunkHeaderSize (take (length page) (drop o page))) ≡ payloadAt page o len

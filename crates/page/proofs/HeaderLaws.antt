@@ -5,34 +5,40 @@ use mathlib.Core.List.{List}
 use Prim.Native.Nat.{ℕ, _+_, _≤_}
 use native.Mathlib.Omega.{arith}
 use lib.Dec.{eqb}
-use lib.ListN.{take}
-use borrow.Author.Tests.{eqb-true, eq-eqb, ne-eqb}
+use lib.ListN.{length, take, length-take, length-drop}
+use borrow.Author.Tests.{eqb-true, eq-eqb, ne-eqb, le-leb}
 use Rattle.types.specs.Build.{pageHeaderSize}
 use Rattle.types.proofs.TestLaws.{both-true}
 use Rattle.crc.specs.Published.{published}
 use Rattle.slices.specs.Fields.{field}
-use Rattle.page.specs.Headers.{headerOf, pageHeaderFine}
-use Rattle.page.proofs.BelowLaws.{part-below, field-below}
+use Rattle.page.specs.Headers.{headerOf, headerThere, pageHeaderFine}
+use Rattle.page.proofs.BelowLaws.{part-below, field-below, longer-below}
 
 module _ (page : List ℕ) (magic p h : ℕ) where
-  -- magic and number decide first, then the sum
-  pub header-known : (eqb (field 4 page 0) magic && eqb (field 4 page 4) p) ≡ true
+  -- that it is there, magic and number decide first, then the sum
+  pub header-known : (headerThere page h && eqb (field 4 page 0) magic && eqb (field 4 page 4) p) ≡ true
       → pageHeaderFine page magic p h ≡ eqb (field 4 page 8) (published (headerOf page h))
   unfolding pageHeaderFine
   header-known e = rw e
 
-  pub header-unknown : (eqb (field 4 page 0) magic && eqb (field 4 page 4) p) ≡ false → pageHeaderFine page magic p h ≡ false
+  pub header-unknown : (headerThere page h && eqb (field 4 page 0) magic && eqb (field 4 page 4) p) ≡ false → pageHeaderFine page magic p h ≡ false
   unfolding pageHeaderFine
   header-unknown e = rw e
 
   pub header-other-magic : (field 4 page 0 ≡ magic → ⊥) → pageHeaderFine page magic p h ≡ false
-  header-other-magic n = header-unknown (rw (ne-eqb (field 4 page 0) magic n))
+  header-other-magic n = header-unknown (rw (ne-eqb (field 4 page 0) magic n, and-false (headerThere page h)))
 
   pub header-other-page : (field 4 page 4 ≡ p → ⊥) → pageHeaderFine page magic p h ≡ false
-  header-other-page n = header-unknown (rw (ne-eqb (field 4 page 4) p n) (and-false (eqb (field 4 page 0) magic)))
+  header-other-page n = header-unknown (rw (ne-eqb (field 4 page 4) p n) (and-false (headerThere page h && eqb (field 4 page 0) magic)))
 
-  pub header-sum : field 4 page 0 ≡ magic → field 4 page 4 ≡ p → pageHeaderFine page magic p h ≡ eqb (field 4 page 8) (published (headerOf page h))
-  header-sum e f = header-known (rw (eq-eqb (field 4 page 0) magic e, eq-eqb (field 4 page 4) p f))
+  pub header-there : pageHeaderSize + h ≤ length page → headerThere page h ≡ true
+  header-there room =
+      let whole : length (headerOf page h) ≡ h = simp (length-take, length-drop) (omega arith) in
+      rw (le-leb pageHeaderSize (length page) (omega arith), eq-eqb (length (headerOf page h)) h whole)
+
+  pub header-sum : pageHeaderSize + h ≤ length page → field 4 page 0 ≡ magic → field 4 page 4 ≡ p
+      → pageHeaderFine page magic p h ≡ eqb (field 4 page 8) (published (headerOf page h))
+  header-sum room e f = header-known (rw (header-there room, eq-eqb (field 4 page 0) magic e, eq-eqb (field 4 page 4) p f))
 
 -- a fine header, taken apart
 pub header-found : (page : List ℕ) (magic p h : ℕ) → pageHeaderFine page magic p h ≡ true
@@ -41,7 +47,8 @@ unfolding pageHeaderFine
 header-found page magic p h e =
     let l = both-true _ _ e in
     let k = both-true _ _ (l .0) in
-    (eqb-true (field 4 page 0) magic (k .0), (eqb-true (field 4 page 4) p (k .1), eqb-true (field 4 page 8) (published (headerOf page h)) (l .1)))
+    let there = both-true (headerThere page h) (eqb (field 4 page 0) magic) (k .0) in
+    (eqb-true (field 4 page 0) magic (there .1), (eqb-true (field 4 page 4) p (k .1), eqb-true (field 4 page 8) (published (headerOf page h)) (l .1)))
 
 -- ---- only the header's own bytes count
 
@@ -51,4 +58,4 @@ headerOf-below h e p q k a = part-below h 12 e p q k a
 pub header-below : (magic n h e : ℕ) (p q : List ℕ) → pageHeaderSize + h ≤ e → take e q ≡ take e p → pageHeaderFine q magic n h ≡ pageHeaderFine p magic n h
 unfolding pageHeaderFine
 header-below magic n h e p q k a =
-    rw (field-below 4 0 e p q (omega arith) a, field-below 4 4 e p q (omega arith) a, field-below 4 8 e p q (omega arith) a, headerOf-below h e p q k a)
+    rw (longer-below 12 e p q (omega arith) a, field-below 4 0 e p q (omega arith) a, field-below 4 4 e p q (omega arith) a, field-below 4 8 e p q (omega arith) a, headerOf-below h e p q k a)

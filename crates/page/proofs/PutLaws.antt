@@ -14,12 +14,12 @@ use Rattle.types.proofs.BytesLaws.{word-bytesOf}
 use Rattle.crc.specs.Published.{published}
 use Rattle.slices.specs.Fields.{field}
 use Rattle.slices.specs.Patch.{patch}
-use Rattle.slices.proofs.PatchLaws.{part-patch, drop-patch-above}
+use Rattle.slices.proofs.PatchLaws.{length-patch, part-patch, drop-patch-above}
 use Rattle.page.specs.Chunks.{chunkMagic, nextOffset, chunkHeader, chunkAt, payloadAt, checkedAt}
 use Rattle.page.specs.Headers.{pageHeader, headerOf, pageHeaderFine}
 use Rattle.page.specs.declared.chunk.Step.the-variants.{Chunk}
 use Rattle.page.proofs.BelowLaws.{part-take}
-use Rattle.page.proofs.ChunkLaws.{chunk-whole, checked-right}
+use Rattle.page.proofs.ChunkLaws.{chunk-whole, sum-fine, checked-right}
 use Rattle.page.proofs.HeaderLaws.{header-sum}
 use Rattle.page.proofs.SumLaws.{published-fits}
 
@@ -61,20 +61,22 @@ module _ (page : List ℕ) (o len crc : ℕ) (room : o + chunkHeaderSize ≤ len
   chunk-put small fits sum =
       let put = patch o (chunkHeader len crc) page in
       let l : field 2 put (o + 2) ≡ len = put-len (omega arith) in
-      chunk-whole put o (omega arith) put-mark (rw l small) (rw l fits) ∙ rw (l, put-crc sum)
+      chunk-whole put o (omega arith) (rw length-patch room) put-mark (rw l small) (rw l fits) ∙ rw (l, put-crc sum)
 
   -- the payload behind it stays
   pub payload-put : (n : ℕ) → payloadAt (patch o (chunkHeader len crc) page) o n ≡ payloadAt page o n
   payload-put n = ap (take n) (drop-patch-above (o + 8) o (chunkHeader len crc) page (rw length-chunkHeader (omega arith)))
 
 -- and with the sum of what stands behind it a reader takes it
-pub checked-put : (page : List ℕ) (o len : ℕ) → o + chunkHeaderSize ≤ length page → len ≤ maxChunkSize → o + chunkHeaderSize + len ≤ pageSize
+pub checked-put : (page : List ℕ) (o len : ℕ) → o + chunkHeaderSize + len ≤ length page → len ≤ maxChunkSize → o + chunkHeaderSize + len ≤ pageSize
     → checkedAt (patch o (chunkHeader len (published (payloadAt page o len))) page) o ≡ Chunk len (published (payloadAt page o len)) (nextOffset o len)
-checked-put page o len room small fits =
+checked-put page o len there small fits =
     let sum = published (payloadAt page o len) in
-    checked-right (patch o (chunkHeader len sum) page) o len sum (nextOffset o len)
+    let room : o + 8 ≤ length page = omega arith in
+    let put = patch o (chunkHeader len sum) page in
+    checked-right put o len sum (nextOffset o len)
     (chunk-put page o len sum room small fits (published-fits (payloadAt page o len)))
-    (ap published (payload-put page o len sum room len))
+    (sum-fine put o len sum (rw length-patch there) (ap published (payload-put page o len sum room len)))
 
 -- ---- the page header
 
@@ -99,7 +101,7 @@ module _ (magic p : ℕ) (header page : List ℕ) (room : pageHeaderSize + lengt
   header-put m n =
       let put = patch 0 (pageHeader magic p header) page in
       let s : published (headerOf put (length header)) ≡ published header = ap published headerOf-put in
-      header-sum put magic p (length header)
+      header-sum put magic p (length header) (rw length-patch room)
       (ap word (in-page-header 4 0 (omega arith)) ∙ word-bytesOf 4 magic m)
       (ap word (in-page-header 4 4 (omega arith)) ∙ word-bytesOf 4 p n)
       ∙ eq-eqb (field 4 put 8) (published (headerOf put (length header)))

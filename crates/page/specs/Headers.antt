@@ -4,7 +4,7 @@ use mathlib.Core.Bool.{Bool, cond, _&&_}
 use mathlib.Core.List.{List, _++_}
 use Prim.Native.Nat.{ℕ, _%_}
 use lib.Dec.{eqb, leb}
-use lib.ListN.{take, drop}
+use lib.ListN.{length, take, drop}
 use Rattle.types.specs.Build.{align, pageHeaderSize, maxHeaderSize}
 use Rattle.types.specs.Bytes.{bytesOf}
 use Rattle.types.specs.declared.refusal.Refusal.the-variants.{BadHeader}
@@ -29,6 +29,11 @@ pageHeader magic p header = bytesOf 4 magic ++ (bytesOf 4 p ++ (bytesOf 4 (publi
 abbrev pub headerOf : List ℕ → ℕ → List ℕ
 headerOf page h = take h (drop pageHeaderSize page)
 
--- whether a page has this magic, this number, and the right sum over its h bytes
+-- whether all bytes of a header with h bytes are there
+abbrev pub headerThere : List ℕ → ℕ → Bool
+headerThere page h = leb pageHeaderSize (length page) && eqb (length (headerOf page h)) h
+
+-- whether a page has its header, with this magic, this number, and the right sum over its h bytes
 unfoldable pub pageHeaderFine : List ℕ → ℕ → ℕ → ℕ → Bool
-pageHeaderFine page magic p h = eqb (field 4 page 0) magic && eqb (field 4 page 4) p && eqb (field 4 page 8) (published (headerOf page h))
+pageHeaderFine page magic p h =
+    headerThere page h && eqb (field 4 page 0) magic && eqb (field 4 page 4) p && eqb (field 4 page 8) (published (headerOf page h))

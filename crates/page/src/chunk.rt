@@ -18,7 +18,7 @@ pub const CHUNK_MAGIC: u16 = 0x59C5;
 pub enum Step {
     // No chunk: the page's chunks end here.
     End,
-    // A chunk whose length cannot be, or whose sum is wrong.
+    // A chunk whose length cannot be, whose payload is not all there, or whose sum is wrong.
     Corrupted,
     // A chunk, and where the next one starts.
     Chunk { len: usize, crc: u32, next: usize },
@@ -46,6 +46,9 @@ pub fn chunk_at(page: &[u8], at: usize) -> Step
     ensures answers { λ r. ⌜ r ≡ chunkAt (now (page .entry)) at ⌝ }
 {
     if PAGE_SIZE - CHUNK_HEADER_SIZE < at {
+        return Step::End;
+    }
+    if page.len() < at + CHUNK_HEADER_SIZE {
         return Step::End;
     }
     if get16(page, at) != CHUNK_MAGIC {
@@ -81,7 +84,8 @@ pub fn checked_at(page: &[u8], at: usize) -> Step
         Step::End => Step::End,
         Step::Corrupted => Step::Corrupted,
         Step::Chunk { len, crc, next } => {
-            if crc32(payload_at(page, at, len)) == crc {
+            let payload = payload_at(page, at, len);
+            if (payload.len() == len) & (crc32(payload) == crc) {
                 Step::Chunk { len, crc, next }
             } else {
                 Step::Corrupted

@@ -29,14 +29,16 @@ pub fn header_of(page: &[u8], h: usize) -> &[u8]
     part_of(page, PAGE_HEADER_SIZE, h)
 }
 
-// Whether the header has this magic and this page number, and its sum is right.
+// Whether the header is all there, it has this magic and this page number, and its sum is right.
 pub fn page_header_fine(page: &[u8], magic: u32, id: PageID, h: usize) -> bool
     ensures answers { λ r. ⌜ r ≡ pageHeaderFine (now (page .entry)) magic (id .0) h ⌝ }
 {
+    let header = header_of(page, h);
+    let there = (PAGE_HEADER_SIZE <= page.len()) & (header.len() == h);
     let number = get32(page, 4) as usize;
     let wanted = id.index();
-    if (get32(page, 0) == magic) & (number == wanted) {
-        get32(page, 8) == crc32(header_of(page, h))
+    if there & (get32(page, 0) == magic) & (number == wanted) {
+        get32(page, 8) == crc32(header)
     } else {
         false
     }

@@ -5,12 +5,10 @@ use mathlib.Core.List.{List, [], _∷_, _++_, map, append-nil}
 use mathlib.Core.Logic.{⊎-elim}
 use Prim.Native.Nat.{ℕ, _%_}
 use lib.ListN.{take}
-use borrow.Author.Tests.{eqb-true, eqb-false}
 use Rattle.types.specs.Build.{align}
 use Rattle.types.specs.declared.refusal.Refusal.the-variants as row
 use Rattle.types.specs.declared.refusal.Verdict.the-variants.{Fine, Refused}
 use Rattle.types.proofs.TestLaws.{decided}
-use Rattle.crc.specs.Published.{published}
 use Rattle.page.specs.Chunks.{chunkAt, payloadAt, checkedAt}
 use Rattle.page.specs.Walks.{Chunk, Walked, walkFrom}
 use Rattle.page.specs.declared.chunk.Step.{Step}
@@ -82,9 +80,9 @@ finds-step page o = by (chunkAt page o) refl
         ap (goodIn page) (walk-chunk page o len crc next e)
         ∙ ⊎-elim
         (λ (r : sumRight page c ≡ true).
-        good-right page c (rest .chunks) (rest .ending) r ∙ rw (checked-right page o len crc next e (eqb-true (published (payloadAt page o len)) crc r)))
+        good-right page c (rest .chunks) (rest .ending) r ∙ rw (checked-right page o len crc next e r))
         (λ (r : sumRight page c ≡ false).
-        good-wrong page c (rest .chunks) (rest .ending) r ∙ rw (checked-wrong page o len crc next e (eqb-false (published (payloadAt page o len)) crc r)))
+        good-wrong page c (rest .chunks) (rest .ending) r ∙ rw (checked-wrong page o len crc next e r))
         (decided (sumRight page c))
 
 -- ---- two pages that agree

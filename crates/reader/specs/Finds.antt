@@ -3,16 +3,14 @@
 use mathlib.Core.Bool.{Bool, cond}
 use mathlib.Core.List.{List, [], _∷_, flatten}
 use Prim.Native.Nat.{ℕ, zero, suc, _≤_}
-use lib.Dec.{eqb}
 use lib.ListN.{length, take}
 use Rattle.types.specs.Build.{pageSize, maxChunkSize}
 use Rattle.types.specs.declared.page_id.PageID.{PageID}
 use Rattle.types.specs.declared.refusal.Refusal.the-variants as row
 use Rattle.types.specs.declared.refusal.Verdict.{Verdict}
 use Rattle.types.specs.declared.refusal.Verdict.the-variants.{Fine, Refused}
-use Rattle.crc.specs.Published.{published}
 use Rattle.slices.specs.Patch.{blank}
-use Rattle.page.specs.Chunks.{payloadAt}
+use Rattle.page.specs.Chunks.{payloadAt, payloadFine}
 use Rattle.page.specs.Walks.{Chunk, walkFrom}
 use Rattle.page.specs.declared.walk.Ending.{Ending}
 use Rattle.page.specs.declared.walk.Ending.the-variants as ending
@@ -70,8 +68,9 @@ payloadOf page c = payloadAt page (c .offset) (c .len)
 abbrev pub NotEmpty : Chunk → Type 0
 NotEmpty c = 1 ≤ c .len
 
+-- its payload is all there, and the sum is right
 abbrev pub sumRight : List ℕ → Chunk → Bool
-sumRight page c = eqb (published (payloadOf page c)) (c .crc)
+sumRight page c = payloadFine page (c .offset) (c .len) (c .crc)
 
 -- the end of a walk, or a chunk that cannot be
 abbrev pub endVerdict : Ending → Verdict

@@ -1,4 +1,4 @@
--- `page::chunk::checked_at` meets its contract. Assumes nothing.
+-- What `chunk_at` finds decides, and of a chunk the test of its payload.
 use mathlib.Core.Path.{sym, ap, _∙_}
 use Rattle.crc.specs.Published.{published}
 use Rattle.page.proofs.ChunkLaws.{checked-end, checked-bad, checked-right, checked-wrong}
@@ -26,33 +26,39 @@ crc32-requires c κs = search needs
 
 returns : tie.Need-returns
 returns c =
-    let a = c .before .before .before .before .args in
-    sym (checked-end (a .page .now) (a .at) (sym (c .before .before .chunk-at .ensures) ∙ c .enum-told .given .1))
+    let at-chunk = c .before .before in
+    let a = at-chunk .before .before .args in
+    sym (checked-end (a .page .now) (a .at) (sym (at-chunk .chunk-at .ensures) ∙ c .enum-told .given .1))
 
 returns-2 : tie.Need-returns-2
 returns-2 c =
-    let a = c .before .before .before .before .args in
-    sym (checked-bad (a .page .now) (a .at) (sym (c .before .before .chunk-at .ensures) ∙ c .enum-told2 .given .1))
+    let at-chunk = c .before .before in
+    let a = at-chunk .before .before .args in
+    sym (checked-bad (a .page .now) (a .at) (sym (at-chunk .chunk-at .ensures) ∙ c .enum-told2 .given .1))
 
 returns-3 : tie.Need-returns-3
 returns-3 c =
-    let at-len = c .before .before .before .before in
-    let at-chunk-at = at-len .before .before in
-    let start = at-chunk-at .before .before in
-    let a = start .args in
-    let sum = c .before .crc32 .ensures ∙ ap published (c .before .before .payload-at .ensures) in
-    sym (checked-right (a .page .now) (a .at) (at-len .len .given .0 .0) (at-len .len .given .0 .1 .0) (at-len .len .given .0 .1 .1 .0)
-    (sym (at-chunk-at .chunk-at .ensures) ∙ at-len .len .given .1) (sym sum ∙ c .if1 .taken))
+    let at-payload = c .before .before in
+    let at-len = at-payload .before .before in
+    let at-chunk = at-len .before .before in
+    let a = at-chunk .before .before .args in
+    let told = at-len .len .given in
+    let len = told .0 .0 in
+    let payload = at-payload .payload-at .ensures in
+    let tested = rw (payload, c .before .crc32 .ensures ∙ ap published payload) at (c .if1 .taken) in
+    sym (checked-right (a .page .now) (a .at) len (told .0 .1 .0) (told .0 .1 .1 .0) (sym (at-chunk .chunk-at .ensures) ∙ told .1) tested)
 
 returns-4 : tie.Need-returns-4
 returns-4 c =
-    let at-len = c .before .before .before .before in
-    let at-chunk-at = at-len .before .before in
-    let start = at-chunk-at .before .before in
-    let a = start .args in
-    let sum = c .before .crc32 .ensures ∙ ap published (c .before .before .payload-at .ensures) in
-    sym (checked-wrong (a .page .now) (a .at) (at-len .len .given .0 .0) (at-len .len .given .0 .1 .0) (at-len .len .given .0 .1 .1 .0)
-    (sym (at-chunk-at .chunk-at .ensures) ∙ at-len .len .given .1) (λ q. c .if1 .left (sum ∙ q)))
+    let at-payload = c .before .before in
+    let at-len = at-payload .before .before in
+    let at-chunk = at-len .before .before in
+    let a = at-chunk .before .before .args in
+    let told = at-len .len .given in
+    let len = told .0 .0 in
+    let payload = at-payload .payload-at .ensures in
+    let tested = rw (payload, c .before .crc32 .ensures ∙ ap published payload) at (c .if1 .left) in
+    sym (checked-wrong (a .page .now) (a .at) len (told .0 .1 .0) (told .0 .1 .1 .0) (sym (at-chunk .chunk-at .ensures) ∙ told .1) tested)
 
 pub checked-at-spec : {M : Type 1} → statement M
 checked-at-spec =

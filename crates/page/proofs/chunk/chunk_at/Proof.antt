@@ -1,8 +1,8 @@
--- `page::chunk::chunk_at` meets its contract. Assumes nothing.
+-- Each return is one law on what stands at an offset: past the page, header not there, unmarked, too long, past the end, a chunk.
 use Prim.Native.Nat.{_+_, _≤_, _<_}
 use mathlib.Core.Path.{sym, _∙_}
 use native.Mathlib.Omega.{arith}
-use Rattle.page.proofs.ChunkLaws.{chunk-past, chunk-unmarked, chunk-long, chunk-over, chunk-whole}
+use Rattle.page.proofs.ChunkLaws.{chunk-past, chunk-short, chunk-unmarked, chunk-long, chunk-over, chunk-whole}
 use borrow.Author.Needs.{needs}
 use Rattle.page.proofs.chunk.chunk_at.Statement.{statement}
 use Rattle.page.proofs.chunk.chunk_at.Tie as tie
@@ -12,17 +12,26 @@ sub-if1 c = search needs
 
 returns : tie.Need-returns
 returns c =
-    let a = c .before .before .args in
+    let start = c .before .before in
+    let a = start .args in
     let h : 4096 < a .at + 8 = omega arith in
     sym (chunk-past (a .page .now) (a .at) h)
+
+add-if2 : tie.Need-add-if2
+add-if2 c = search needs
+
+returns-2 : tie.Need-returns-2
+returns-2 c =
+    let start = c .before .before .before in
+    sym (chunk-short (start .args .page .now) (start .args .at) (c .if2 .taken))
 
 get16-requires : tie.Need-get16-requires
 get16-requires c κs = search needs
 
-returns-2 : tie.Need-returns-2
-returns-2 c =
-    let a = c .before .before .before .before .args in
-    sym (chunk-unmarked (a .page .now) (a .at) (λ q. c .if2 .taken (c .before .get16 .ensures ∙ q)))
+returns-3 : tie.Need-returns-3
+returns-3 c =
+    let start = c .before .before .before .before .before in
+    sym (chunk-unmarked (start .args .page .now) (start .args .at) (λ q. c .if3 .taken (c .before .get16 .ensures ∙ q)))
 
 add-get16 : tie.Need-add-get16
 add-get16 c = search needs
@@ -33,11 +42,14 @@ get16-requires-2 c κs = search needs
 cast-len : tie.Need-cast-len
 cast-len c = search needs
 
-returns-3 : tie.Need-returns-3
-returns-3 c =
-    let a = c .before .before .before .before .before .before .args in
+returns-4 : tie.Need-returns-4
+returns-4 c =
+    let at-mark = c .before .before in
+    let start = at-mark .before .before .before .before .before in
+    let a = start .args in
     let room : a .at + 8 ≤ 4096 = omega arith in
-    sym (chunk-long (a .page .now) (a .at) room (sym (c .before .before .before .get16 .ensures) ∙ c .before .before .if2 .left) (rw (c .before .get162 .ensures) at (c .if3 .taken)))
+    let mark = sym (at-mark .before .get16 .ensures) ∙ at-mark .if3 .left in
+    sym (chunk-long (a .page .now) (a .at) room (at-mark .before .before .if2 .left) mark (rw (c .before .get162 .ensures) at (c .if4 .taken)))
 
 add-end : tie.Need-add-end
 add-end c = search needs
@@ -45,15 +57,15 @@ add-end c = search needs
 add-end-2 : tie.Need-add-end-2
 add-end-2 c = search needs
 
-returns-4 : tie.Need-returns-4
-returns-4 c =
-    let at-if2 = c .before .before .before in
-    let at-get16 = at-if2 .before in
-    let start = at-get16 .before .before .before in
+returns-5 : tie.Need-returns-5
+returns-5 c =
+    let at-mark = c .before .before .before in
+    let start = at-mark .before .before .before .before .before in
     let a = start .args in
     let room : a .at + 8 ≤ 4096 = omega arith in
+    let mark = sym (at-mark .before .get16 .ensures) ∙ at-mark .if3 .left in
     let len = c .before .before .get162 .ensures in
-    sym (chunk-over (a .page .now) (a .at) room (sym (at-get16 .get16 .ensures) ∙ at-if2 .if2 .left) (rw len at (c .before .if3 .left)) (rw len at (c .if4 .taken)))
+    sym (chunk-over (a .page .now) (a .at) room (at-mark .before .before .if2 .left) mark (rw len at (c .before .if4 .left)) (rw len at (c .if5 .taken)))
 
 add-get32 : tie.Need-add-get32
 add-get32 c = search needs
@@ -67,18 +79,17 @@ cast-align-up c = search needs
 align-up-requires : tie.Need-align-up-requires
 align-up-requires c κs = search needs
 
-returns-5 : tie.Need-returns-5
-returns-5 c =
-    let at-if3 = c .before .before .before in
-    let at-get162 = at-if3 .before in
-    let at-if2 = at-get162 .before in
-    let at-get16 = at-if2 .before in
-    let start = at-get16 .before .before .before in
+returns-6 : tie.Need-returns-6
+returns-6 c =
+    let at-end = c .before .before in
+    let at-mark = at-end .before .before .before in
+    let start = at-mark .before .before .before .before .before in
     let a = start .args in
     let room : a .at + 8 ≤ 4096 = omega arith in
-    let len = at-get162 .get162 .ensures in
+    let mark = sym (at-mark .before .get16 .ensures) ∙ at-mark .if3 .left in
+    let len = at-end .before .before .get162 .ensures in
     rw (c .align-up .ensures, c .before .get32 .ensures, len)
-    (sym (chunk-whole (a .page .now) (a .at) room (sym (at-get16 .get16 .ensures) ∙ at-if2 .if2 .left) (rw len at (at-if3 .if3 .left)) (rw len at (c .before .before .if4 .left))))
+    (sym (chunk-whole (a .page .now) (a .at) room (at-mark .before .before .if2 .left) mark (rw len at (at-end .before .if4 .left)) (rw len at (at-end .if5 .left))))
 
 pub chunk-at-spec : {M : Type 1} → statement M
 chunk-at-spec =
@@ -86,17 +97,19 @@ chunk-at-spec =
     (tie.spec
     sub-if1
     returns
-    get16-requires
+    add-if2
     returns-2
+    get16-requires
+    returns-3
     add-get16
     get16-requires-2
     cast-len
-    returns-3
+    returns-4
     add-end
     add-end-2
-    returns-4
+    returns-5
     add-get32
     get32-requires
     cast-align-up
     align-up-requires
-    returns-5)
+    returns-6)
