@@ -5,13 +5,13 @@ fn main() {
     let package = std::env::var("CARGO_MANIFEST_DIR").unwrap();
     let proved = Path::new(&package).join("target/proved");
     println!("cargo::rerun-if-changed=build.rs");
-    println!("cargo::rerun-if-changed={}", proved.join("libexports.a").display());
-    if !proved.join("libexports.a").exists() {
-        println!("cargo::error=no target/proved/libexports.a: run bench/build first");
+    println!("cargo::rerun-if-changed={}", proved.join("libbench_jobs.a").display());
+    if !proved.join("libbench_jobs.a").exists() {
+        println!("cargo::error=no target/proved/libbench_jobs.a: run bench/build first");
         return;
     }
     println!("cargo::rustc-link-search=native={}", proved.display());
-    println!("cargo::rustc-link-lib=static=exports");
+    println!("cargo::rustc-link-lib=static=bench_jobs");
     let machine = std::env::var("CARGO_CFG_TARGET_ARCH").unwrap();
     let places = [
         format!("/usr/lib/{machine}-linux-gnu"),

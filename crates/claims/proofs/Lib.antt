@@ -15,7 +15,7 @@ pub mod OneAlloc
 pub mod OneCrc
 pub mod OneCursor
 pub mod OneDigits
-pub mod OneExports
+pub mod OneBenchJobs
 pub mod OneFlash
 pub mod OneKeys
 pub mod OnePage

@@ -1,0 +1,50 @@
+-- `bench_jobs::allocating::code_of` meets its contract. Assumes nothing.
+use Rattle.bench_jobs.proofs.AllocationLaws.{code-refused}
+use borrow.Author.Needs.{needs}
+use Rattle.bench_jobs.proofs.allocating.code_of.Statement.{statement}
+use Rattle.bench_jobs.proofs.allocating.code_of.Tie as tie
+
+enum-known-answer : tie.Need-enum-known-answer
+enum-known-answer c = search needs
+
+cast-result : tie.Need-cast-result
+cast-result c = search needs
+
+enum-told : tie.Need-enum-told
+enum-told c = search needs
+
+enum-known-answer-2 : tie.Need-enum-known-answer-2
+enum-known-answer-2 c = search needs
+
+number-requires : tie.Need-number-requires
+number-requires c κs = search needs
+
+cast-result-2 : tie.Need-cast-result-2
+cast-result-2 c = search needs
+
+add-result : tie.Need-add-result
+add-result c = search needs
+
+returns : tie.Need-returns
+returns c = search needs
+
+returns-2 : tie.Need-returns-2
+returns-2 c = search needs
+
+returns-3 : tie.Need-returns-3
+returns-3 c = code-refused _ _ _ (c .before .before .answer2 .given .1) (c .number .ensures)
+
+pub code-of-spec : {M : Type 1} → statement M
+code-of-spec =
+    tie.close
+    (tie.spec
+    enum-known-answer
+    cast-result
+    enum-told
+    enum-known-answer-2
+    number-requires
+    cast-result-2
+    add-result
+    returns
+    returns-2
+    returns-3)

@@ -1,0 +1,65 @@
+-- `bench_jobs::reading::puffcradle_read_page` meets its contract. Assumes nothing.
+use mathlib.Core.Path.{ap, _∙_}
+use lib.ListN.{length}
+use denote.Ref.{now}
+use Rattle.reader.specs.Calls.{openBytes}
+use Rattle.reader.specs.declared.page_reader.PageReader.{PageReader}
+use Rattle.bench_jobs.proofs.ReadingLaws.{page-read, page-out}
+use borrow.Author.Needs.{needs}
+use Rattle.bench_jobs.proofs.reading.puffcradle_read_page.Statement.{statement}
+use Rattle.bench_jobs.proofs.reading.puffcradle_read_page.Tie as tie
+
+new-requires : tie.Need-new-requires
+new-requires c κs = search needs
+
+open-requires : tie.Need-open-requires
+open-requires c κs = search needs
+
+reading-at-requires : tie.Need-reading-at-requires
+reading-at-requires c κs = search needs
+
+read-all-requires : tie.Need-read-all-requires
+read-all-requires c κs = search needs
+
+told-requires : tie.Need-told-requires
+told-requires c κs = search needs
+
+same-length : tie.Need-same-length
+same-length c = search needs
+
+same-length-2 : tie.Need-same-length-2
+same-length-2 c = search needs
+
+returns : tie.Need-returns
+returns c =
+    let at-read-all = c .before .before .before in
+    let at-reading-at = at-read-all .before .before in
+    let at-open = at-reading-at .before .before .before .before in
+    let at-new = at-open .before .before in
+    let start = at-new .before .before .before .before in
+    let a = start .args in
+    let h = length (now (a .header)) in
+    let new = at-new .new in
+    let opened = at-open .«open» in
+    let start = at-reading-at .reading-at in
+    let all = at-read-all .read-all in (
+      page-read (now (a .flash)) (a .magic) (a .page) h (now (a .out)) (new .result) (opened .result) (start .result) (new .ensures) (opened .ensures .0) (start .ensures) (all .result) _
+          (all .ensures .0) (c .told .ensures),
+      (
+        opened .ensures .1 ∙ ap (λ (r : PageReader). openBytes r (now (a .flash)) (a .magic) (record { 0 = a .page }) (now (a .header))) (new .ensures),
+        page-out (now (a .flash)) (a .magic) (a .page) h (now (a .out)) (new .result) (opened .result) (start .result) (new .ensures) (opened .ensures .0) (start .ensures) _ (all .ensures .1),
+      ),
+    )
+
+pub puffcradle-read-page-spec : {M : Type 1} → statement M
+puffcradle-read-page-spec =
+    tie.close
+    (tie.spec
+    new-requires
+    open-requires
+    reading-at-requires
+    read-all-requires
+    told-requires
+    same-length
+    same-length-2
+    returns)

@@ -1,0 +1,144 @@
+// A page, written anew and committed.
+use crate::telling::told;
+use slices::part::part_of;
+use types::config::PAGE_SIZE;
+use types::num::least;
+use types::page_id::PageID;
+use writer::answers::Ended;
+use writer::answers::Opening;
+use writer::answers::Taking;
+use writer::answers::Wrote;
+use writer::page_writer::PageWriter;
+ghost use mathlib.Core.Path.{_≡_};
+ghost use Rattle.bench_jobs.specs.Writings.{Fits, stateOf, afterHeader, begun, afterWrite, writeOne, writeAll, finished, finishedFlash, writePage};
+
+// A writer on its way: the stores left, how many bytes it took, whether it goes on, and the number of the row that refused.
+pub struct Writing {
+    pub writer: PageWriter,
+    pub left: usize,
+    pub taken: usize,
+    pub on: bool,
+    pub why: u8,
+}
+
+// With the page header stored, or refused.
+fn after_header(e: Ended) -> Writing
+    ensures answers { λ r. ⌜ r ≡ afterHeader e ⌝ }
+{
+    let answer = e.answer;
+    let writer = e.writer;
+    let no = answer.number();
+    Writing {
+        writer,
+        left: e.left,
+        taken: 0,
+        on: no == 0,
+        why: no,
+    }
+}
+
+// A new writer, opened, with the page header stored.
+fn begun(flash: &mut [u8], magic: u32, page: u16, header: &[u8], left: usize) -> Writing
+    ensures answers { λ r. ⌜ r ≡ begun (now (flash .entry)) magic page (now (header .entry)) left .writing ⌝ }
+    ensures bytes { λ _. ⌜ now (flash .exit) ≡ begun (now (flash .entry)) magic page (now (header .entry)) left .flash ⌝ }
+{
+    let opened = PageWriter::new().open(flash, PageID(page), header.len(), left);
+    let answer = opened.answer;
+    let writer = opened.writer;
+    if let Opening::Refused(no) = answer {
+        return Writing {
+            writer,
+            left: opened.left,
+            taken: 0,
+            on: false,
+            why: no.number(),
+        };
+    }
+    after_header(writer.write_header(flash, magic, header, opened.left))
+}
+
+// Behind a write: one that took nothing, and a refused one, is the last.
+fn after_write(from: usize, w: Wrote) -> Writing
+    requires { ⌜ Fits from (w .answer) ⌝ }
+    ensures answers { λ r. ⌜ r ≡ afterWrite from w ⌝ }
+{
+    let answer = w.answer;
+    let writer = w.writer;
+    match answer {
+        Taking::Took(n) => Writing {
+            writer,
+            left: w.left,
+            taken: from + n,
+            on: n != 0,
+            why: 0,
+        },
+        Taking::Refused(no) => Writing {
+            writer,
+            left: w.left,
+            taken: from,
+            on: false,
+            why: no.number(),
+        },
+    }
+}
+
+// One write, of the next piece of the payload.
+fn write_one(w: Writing, flash: &mut [u8], payload: &[u8], piece: usize) -> Writing
+    ensures answers { λ r. ⌜ r ≡ writeOne (now (payload .entry)) piece (stateOf w (now (flash .entry))) .writing ⌝ }
+    ensures bytes { λ _. ⌜ now (flash .exit) ≡ writeOne (now (payload .entry)) piece (stateOf w (now (flash .entry))) .flash ⌝ }
+{
+    let from = least(w.taken, payload.len());
+    let writer = w.writer;
+    let wrote = writer.write(flash, part_of(payload, from, piece), w.left);
+    after_write(from, wrote)
+}
+
+// Each write but the last takes a byte or more, so a page has no more of them.
+fn write_all(start: Writing, flash: &mut [u8], payload: &[u8], piece: usize) -> Writing
+    ensures answers { λ r. ⌜ r ≡ writeAll (now (payload .entry)) piece (stateOf start (now (flash .entry))) .writing ⌝ }
+    ensures bytes { λ _. ⌜ now (flash .exit) ≡ writeAll (now (payload .entry)) piece (stateOf start (now (flash .entry))) .flash ⌝ }
+{
+    let mut w = start;
+    let mut left = PAGE_SIZE + 1;
+    while 0 < left {
+        if !w.on {
+            return w;
+        }
+        left -= 1;
+        w = write_one(w, flash, payload, piece);
+    }
+    w
+}
+
+// The commit, where nothing was refused.
+fn finished(w: Writing, flash: &mut [u8]) -> u64
+    ensures answers { λ r. ⌜ r ≡ finished (stateOf w (now (flash .entry))) ⌝ }
+    ensures bytes { λ _. ⌜ now (flash .exit) ≡ finishedFlash (stateOf w (now (flash .entry))) ⌝ }
+{
+    if w.why != 0 {
+        return told(w.why, w.taken);
+    }
+    let writer = w.writer;
+    let done = writer.commit(flash, w.left);
+    let answer = done.answer;
+    told(answer.number(), w.taken)
+}
+
+// Opens a page to write it anew, stores its header, writes the payload in pieces and commits. What was taken, and why it was refused.
+#[no_mangle]
+pub extern "C" fn puffcradle_write_page(
+    flash: &mut [u8],
+    magic: u32,
+    page: u16,
+    header: &[u8],
+    payload: &[u8],
+    piece: usize,
+    left: usize,
+) -> u64
+    ensures answers { λ r. ⌜ r ≡ finished (writePage (now (flash .entry)) magic page (now (header .entry)) (now (payload .entry)) piece left) ⌝ }
+    ensures bytes { λ _. ⌜ now (flash .exit) ≡ finishedFlash (writePage (now (flash .entry)) magic page (now (header .entry)) (now (payload .entry)) piece left) ⌝ }
+{
+    let start = begun(flash, magic, page, header, left);
+    let w = write_all(start, flash, payload, piece);
+    finished(w, flash)
+}
