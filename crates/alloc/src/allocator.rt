@@ -25,14 +25,14 @@ pub struct Allocator {
     pub page_count: usize,
     // A bit for each page, 1 where it is used.
     pub pages: [u8; MARK_BYTES],
-    // How many are used.
+    // How many pages are used.
     pub used: usize,
     // Where the next search starts.
     pub next_page_id: usize,
 }
 
 impl Allocator {
-    // Without pages, until it is reset.
+    // A new allocator has no pages until it is reset.
     pub fn new() -> Allocator
         ensures answers { λ r. ⌜ r ≡ allFree 0 0 ⌝ }
     {
@@ -64,7 +64,7 @@ impl Allocator {
         }
     }
 
-    // The first free page from the next one on, round.
+    // The first free page from the next one on, wrapping round.
     pub fn try_allocate(self) -> Allocation
         ensures answers { λ r. ⌜ r ≡ tryAllocate self ⌝ }
     {

@@ -6,7 +6,7 @@ use super::allocator::Allocator;
 use types::page_id::PageID;
 use types::refusal::Refusal;
 
-// Of try_allocate: a page, or none where no page is free.
+// The answer of try_allocate: a page, or none where no page is free.
 pub enum Allocated {
     Page(PageID),
     None,
@@ -30,13 +30,13 @@ pub struct Allocation {
     pub allocator: Allocator,
 }
 
-// Of try_allocate_each: how many pages.
+// The answer of try_allocate_each: how many pages.
 pub struct Allocations {
     pub answer: Count,
     pub allocator: Allocator,
 }
 
-// Of reset, mark_used, free and free_each.
+// The answer of reset, mark_used, free and free_each.
 pub enum Outcome {
     Done,
     Refused(Refusal),
@@ -58,7 +58,7 @@ pub struct Change {
     pub allocator: Allocator,
 }
 
-// Of is_used.
+// The answer of is_used.
 pub enum Usage {
     Used,
     Free,
@@ -77,7 +77,7 @@ impl Usage {
     }
 }
 
-// Of used_pages, free_pages and page_count, and of try_allocate_each.
+// The answer of used_pages, free_pages and page_count, and of try_allocate_each.
 pub enum Count {
     Pages(usize),
     Refused(Refusal),
@@ -94,7 +94,7 @@ impl Count {
     }
 }
 
-// Of margin: how many pages would stay free, below zero where they are too few.
+// The answer of margin: how many pages would stay free, below zero where they are too few.
 pub enum Margin {
     Pages(isize),
     Refused(Refusal),

@@ -19,7 +19,7 @@ pub(crate) fn is_marked(pages: &[u8], page: usize) -> bool
     (pages[page / 8] >> (page % 8)) % 2 == 1
 }
 
-// How many marks there are in the bytes from one on.
+// How many marks there are in the bytes from index `at` on.
 pub(crate) fn count_from(pages: &[u8], at: usize) -> usize
     requires { ⌜ length (now pages) ≡ maxPageCount / 8 ⌝ }
     ensures answers { λ r. ⌜ r ≡ countOf (marksOf (drop at (now (pages .entry)))) ⌝ }
@@ -34,7 +34,7 @@ pub(crate) fn count_from(pages: &[u8], at: usize) -> usize
     n as usize
 }
 
-// Whether no page from one on is marked.
+// Whether no page from `page` on is marked.
 pub(crate) fn none_from(pages: &[u8], page: usize) -> bool
     requires { ⌜ length (now pages) ≡ maxPageCount / 8 ⌝ }
     ensures answers { λ r. ⌜ r ≡ eqb (countOf (drop page (marksOf (now (pages .entry))))) 0 ⌝ }
@@ -46,7 +46,7 @@ pub(crate) fn none_from(pages: &[u8], page: usize) -> bool
     (pages[at] >> (page % 8) == 0) & (count_from(pages, at + 1) == 0)
 }
 
-// The first free page from one up to another.
+// The first free page from `from` up to `to`, which is not looked at.
 fn free_between(pages: &[u8], from: usize, to: usize) -> MaybePageID
     requires { ⌜ length (now pages) ≡ maxPageCount / 8 ⌝ }
     requires { ⌜ to ≤ maxPageCount ⌝ }
@@ -67,7 +67,7 @@ fn free_between(pages: &[u8], from: usize, to: usize) -> MaybePageID
     MaybePageID::None
 }
 
-// The first free page from the next one on, round.
+// The first free page from the next one on, wrapping round.
 pub(crate) fn first_free(pages: &[u8], next: usize, count: usize) -> MaybePageID
     requires { ⌜ length (now pages) ≡ maxPageCount / 8 ⌝ }
     requires { ⌜ next ≤ maxPageCount ⌝ }

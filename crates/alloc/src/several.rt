@@ -34,7 +34,7 @@ fn refused(no: Refusal, start: Allocator) -> Change
     }
 }
 
-// A page for each place, until none is free. The places behind the last page stay.
+// Puts a page into each place, until no page is free. The remaining places stay as they were.
 pub fn try_allocate_each(a: Allocator, places: &mut [u16]) -> Allocations
     ensures answers { λ r. ⌜ r ≡ allocateEach a (length (now (places .entry))) ⌝ }
     ensures bytes { λ _. ⌜ now (places .exit) ≡ placesAfter a (now (places .entry)) ⌝ }
@@ -80,7 +80,7 @@ pub fn try_allocate_each(a: Allocator, places: &mut [u16]) -> Allocations
     )
 }
 
-// Each of these pages free again, or none of them where one cannot be freed.
+// Frees all of these pages, or none of them if one cannot be freed.
 pub fn free_each(a: Allocator, freed: &[u16]) -> Change
     ensures answers { λ r. ⌜ r ≡ freeEach a (now (freed .entry)) ⌝ }
 {

@@ -24,7 +24,7 @@ pub(crate) fn in_range(a: Allocator) -> bool
         & marks::none_from(&a.pages, a.page_count)
 }
 
-// A free page marked, and counted.
+// Marks a free page, and counts it.
 pub(crate) fn marked(a: Allocator, p: usize) -> Allocator
     requires { ⌜ p < maxPageCount ⌝ }
     requires { ⌜ isMarked (a .pages) p ≡ false ⌝ }
@@ -41,7 +41,7 @@ pub(crate) fn marked(a: Allocator, p: usize) -> Allocator
     }
 }
 
-// A used page free again.
+// Frees a used page.
 pub(crate) fn freed(a: Allocator, p: usize) -> Allocator
     requires { ⌜ p < maxPageCount ⌝ }
     requires { ⌜ isMarked (a .pages) p ≡ true ⌝ }
@@ -58,7 +58,7 @@ pub(crate) fn freed(a: Allocator, p: usize) -> Allocator
     }
 }
 
-// The page past a page, round.
+// The page after page p, wrapping round at the count.
 pub(crate) fn page_past(p: usize, count: usize) -> usize
     requires { ⌜ p < count ⌝ }
     ensures answers { λ r. ⌜ r ≡ (p + 1) % count ⌝ }

@@ -118,7 +118,7 @@ module _ (id : PageID) (h total o : ℕ) (buf payload bytes page₀ : List ℕ) 
       made-fit at group page (omega arith) ∙ group-stored (o + 8) g payload bytes buf page₀ four top fill (omega arith) in
       rw (c, least) (wholes-behind o g payload bytes page₀ (made 0 (store at group) page) fits (omega arith) (omega arith) done)
 
-  -- in each case
+  -- whether the piece completes no group, one group or more
   pub piece-stored : applied 0 (payloadOps w bytes) page ≡ patch (o + 8) (wholes (payload ++ bytes)) page₀
   piece-stored =
       ⊎-elim even-stored

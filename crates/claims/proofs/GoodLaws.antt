@@ -71,7 +71,7 @@ module _ (magic p h o : ℕ) (page next : List ℕ) (good : Good magic p h o pag
     ap (λ (x : Walked). map (payloadOf next) (x .chunks)) w ∙ all-kept page next start o (walkFrom page start .chunks) same placed,
   )
 
-  -- and one more
+  -- the same chunks and one more
   pub good-more : (c : Chunk) (o' : ℕ) → walkFrom next start ≡ record { chunks = walkFrom page start .chunks ++ (c ∷ []); ending = EndAt o' } → Right next c
       → Good magic p h o' next × (payloads next h ≡ payloads page h ++ (payloadOf next c ∷ []))
   good-more c o' w r =

@@ -1,4 +1,4 @@
-// A sum in the making: the register before, between and after the bytes.
+// A running sum: the register before, between and after the bytes.
 use crate::braid;
 ghost use mathlib.Core.Path.{_≡_};
 ghost use Rattle.crc.specs.Register.{preset, updated, finished};

@@ -15,21 +15,21 @@ use Rattle.cursor.specs.declared.place.Place.{Place}
 use Rattle.cursor.specs.declared.place.Place.the-variants.{At, Gone}
 use Rattle.cursor.specs.declared.place.RunPlace.{RunPlace}
 
--- no end falls, and none is past a buffer of so many bytes
+-- no end falls, and none is past a buffer of `size` bytes
 unfoldable pub risingEnds : ℕ → ℕ → List ℕ → Bool
 risingEnds size from [] = true
 risingEnds size from (to ∷ ends) = leb from to && leb to size && risingEnds size to ends
 
--- and there are no more than so many files
+-- there are no more ends than files, no end falls, and none is past the buffer
 unfoldable pub goodRuns : ℕ → List ℕ → Bool
 goodRuns size ends = leb (length ends) fileCount && risingEnds size 0 ends
 
--- a position is within its run, and past the last run there is none
+-- whether a place is good: it is gone, or a position within a run that is there
 unfoldable pub goodPlace : List ℕ → ℕ → Place → Bool
 goodPlace ends i Gone = true
 goodPlace ends i (At at) = ltb i (length ends) && leb at (endOf ends i - startOf ends i)
 
--- so many places from place i on
+-- each of `count` places from place i on is good
 unfoldable pub goodFrom : List ℕ → List RunPlace → ℕ → ℕ → Bool
 goodFrom ends places zero i = true
 goodFrom ends places (suc count) i = goodPlace ends i (placeOf places i) && goodFrom ends places count (suc i)
@@ -41,6 +41,6 @@ goodPlaces ends places = goodFrom ends places fileCount 0
 unfoldable pub newCheck : ℕ → List ℕ → Verdict
 newCheck size ends = cond (goodRuns size ends) Fine (Refused BadRuns)
 
--- and before an entry is looked for
+-- what is refused before an entry is looked for
 unfoldable pub nextCheck : ℕ → List ℕ → List RunPlace → Verdict
 nextCheck size ends places = cond (goodRuns size ends) (cond (goodPlaces ends places) Fine (Refused BadState)) (Refused BadRuns)

@@ -26,7 +26,7 @@ placed sought.Gone i places later = later places
 placed (sought.At at) i places later = later (set places i (atPlace at))
 placed (sought.Refused why) i places later = refusedNew why
 
--- so many runs from run i on, in list order
+-- `count` runs from run i on, in list order
 unfoldable pub newFrom : List ℕ → List ℕ → Bound → List ℕ → ℕ → ℕ → List RunPlace → NewCursor
 newFrom bytes ends bound lower zero i places = record { cursor = record { places = places }; answer = Ready }
 newFrom bytes ends bound lower (suc count) i places =

@@ -96,7 +96,7 @@ change (look.Level r) i p later = later (withHolder i r p)
 change (look.Below r) i p later = later (withLowest i r p)
 change (look.Refused why) i p later = withRefusal why p
 
--- so many runs from run i on
+-- a pass over `count` runs from run i on
 unfoldable pub passFrom : List ℕ → List ℕ → Bound → List ℕ → ℕ → ℕ → Pass → Pass
 passFrom bytes ends bound upper zero i p = p
 passFrom bytes ends bound upper (suc count) i p =

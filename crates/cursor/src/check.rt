@@ -8,7 +8,7 @@ use types::config::FILE_COUNT;
 use types::refusal::Refusal;
 use types::refusal::Verdict;
 
-// No more ends than files, none falling, none past a buffer of so many bytes.
+// Whether there are no more ends than files, no end falls, and none is past a buffer of `size` bytes.
 fn good_runs(size: usize, ends: &[usize]) -> bool
     ensures answers { λ r. ⌜ r ≡ goodRuns size (now (ends .entry)) ⌝ }
 {
@@ -29,7 +29,7 @@ fn good_runs(size: usize, ends: &[usize]) -> bool
     true
 }
 
-// A position is within its run, and past the last run there is none.
+// Whether a place is good: it is gone, or a position within a run that is there.
 fn good_place(place: Place, ends: &[usize], i: usize) -> bool
     ensures answers { λ r. ⌜ r ≡ goodPlace (now (ends .entry)) i place ⌝ }
 {

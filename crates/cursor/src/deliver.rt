@@ -31,7 +31,7 @@ fn key_of<'a, 'b>(lowest: Lowest, runs: &'a [u8], ends: &'b [usize]) -> &'a [u8]
     r.key_in(run_of(runs, ends, i))
 }
 
-// And its value.
+// The value that a pass found.
 fn value_of<'a, 'b>(lowest: Lowest, runs: &'a [u8], ends: &'b [usize]) -> &'a [u8]
     ensures answers { λ r. ⌜ now r ≡ lowestValue (now (runs .entry)) (now (ends .entry)) lowest ⌝ }
 {
@@ -41,7 +41,7 @@ fn value_of<'a, 'b>(lowest: Lowest, runs: &'a [u8], ends: &'b [usize]) -> &'a [u
     r.value_in(run_of(runs, ends, i))
 }
 
-// What a settled pass answers, for buffers and an entry of such lengths.
+// What a settled pass answers, given the lengths of the buffers and of the entry.
 fn answer_by(
     lowest: Lowest,
     keyroom: usize,

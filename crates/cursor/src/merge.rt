@@ -24,7 +24,7 @@ use types::config::FILE_COUNT;
 use types::refusal::Refusal;
 use types::refusal::Verdict;
 
-// No cursor: every run is gone.
+// A refused cursor: every run is gone.
 fn refused(why: Refusal) -> NewCursor
     ensures answers { λ r. ⌜ r ≡ refusedNew why ⌝ }
 {
@@ -50,7 +50,7 @@ fn places_by(answer: NextAnswer, pass: Pass) -> [RunPlace; FILE_COUNT]
 }
 
 impl Cursor {
-    // A cursor that starts at a lower bound, runs searched in list order.
+    // Makes a cursor that starts at a lower bound. The runs are searched in list order.
     pub fn new(runs: &[u8], ends: &[usize], bound: Bound, lower: &[u8]) -> NewCursor
         ensures answers { λ r. ⌜ r ≡ newOf (now (runs .entry)) (now (ends .entry)) bound (now (lower .entry)) ⌝ }
     {
@@ -82,7 +82,7 @@ impl Cursor {
         }
     }
 
-    // The next entry under an upper bound, its key and value at the start of their buffers.
+    // Hands out the next entry under an upper bound: its key and value go to the start of their buffers.
     pub fn next(
         self,
         runs: &[u8],

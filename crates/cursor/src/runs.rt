@@ -32,7 +32,7 @@ pub(crate) fn run_of<'a, 'b>(runs: &'a [u8], ends: &'b [usize], i: usize) -> &'a
     part(runs, from, to)
 }
 
-// How many they are.
+// How many bytes run i has.
 pub(crate) fn run_len(ends: &[usize], i: usize) -> usize
     ensures answers { λ r. ⌜ r ≡ endOf (now (ends .entry)) i - startOf (now (ends .entry)) i ⌝ }
 {

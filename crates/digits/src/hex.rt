@@ -9,7 +9,7 @@ use types::num::least;
 
 // What a word in hex comes to.
 pub enum Decoded {
-    // So many bytes, at the buffer's start.
+    // How many bytes were put at the buffer's start.
     Bytes(usize),
     // The word is not pairs of digits.
     Bad,
@@ -117,7 +117,7 @@ fn low_digit(byte: u8) -> u8
     digit_of(byte as u32)
 }
 
-// Lays bytes out in hex at the buffer's start, so many of them as there is room for, and answers how many digits that makes.
+// Writes bytes in hex to the buffer's start, as many as there is room for. It answers how many digits that makes.
 pub fn encode(bytes: &[u8], out: &mut [u8]) -> usize
     ensures answers { λ r. ⌜ r ≡ 2 * min (length (now (bytes .entry))) (length (now (out .entry)) / 2) ⌝ }
     ensures bytes { λ _. ⌜ now (out .exit) ≡ over (hexOf (take (length (now (out .entry)) / 2) (now (bytes .entry)))) (now (out .entry)) ⌝ }

@@ -21,7 +21,7 @@ pub enum Word32 {
     NoWord,
 }
 
-// n with one digit more, where that is one of the base and the number stays within the most.
+// n with one more digit, if that is a digit of the base and the number stays within the limit.
 fn joined(base: usize, most: usize, n: usize, d: u8) -> Number
     requires { ⌜ 0 < base ⌝ }
     requires { ⌜ base ≤ most ⌝ }

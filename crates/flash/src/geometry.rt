@@ -37,7 +37,7 @@ pub fn page_start(page: PageID) -> usize
     page.index() * PAGE_SIZE
 }
 
-// The bytes of a page, which are none where the flash ends before it.
+// The bytes of a page; none if the flash ends before it.
 pub fn page_of(flash: &[u8], page: PageID) -> &[u8]
     ensures answers { λ r. ⌜ now r ≡ pageOf (page .0) (now (flash .entry)) ⌝ }
 {

@@ -1,7 +1,7 @@
 // The operations on a page, and the number of them that is left.
 //
-// The forms with `_if` make a call's list of operations a line each, with no branch between them: where one is cut none is
-// left, so the later ones make nothing.
+// The forms with `_if` let a call make its operations one line each, with no branch between them. If one is cut, `left` is 0, so
+// the remaining ones do nothing.
 use crate::geometry::page_start;
 use slices::part;
 use types::config::PAGE_SIZE;

@@ -15,7 +15,7 @@ compareKeys [] (b ∷ t) = Less
 compareKeys (a ∷ s) [] = Greater
 compareKeys (a ∷ s) (b ∷ t) = cond (ltb a b) Less (cond (ltb b a) Greater (compareKeys s t))
 
--- so many first bytes are the same in both
+-- the first `size` bytes are the same in both
 pub record Alike (a b : List ℕ) (size : ℕ) : Type 0 where
   pub first : size ≤ length a
   pub second : size ≤ length b

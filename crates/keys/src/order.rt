@@ -32,7 +32,7 @@ fn shorter(a: usize, b: usize) -> usize
     if a < b { a } else { b }
 }
 
-// So many first bytes are the same in both: keys of one run often start alike, so they are passed four at a time.
+// A number of first bytes that are the same in both keys. Keys of one run often start alike, so four bytes are compared at a time.
 fn alike(a: &[u8], b: &[u8]) -> usize
     ensures answers { λ r. ⌜ Alike (now (a .entry)) (now (b .entry)) r ⌝ }
 {

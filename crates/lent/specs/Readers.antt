@@ -13,6 +13,6 @@ readerAt run at = record { run = run; at = at }
 abbrev pub stepOf : RunReader → Step
 stepOf r = stepAt (now (r .run)) (r .at)
 
--- and where it stands then
+-- where it stands after that call
 abbrev pub movedOn : RunReader → RunReader
 movedOn r = readerAt (r .run) (stepOf r .at)

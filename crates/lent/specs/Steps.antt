@@ -15,7 +15,7 @@ use Rattle.lent.specs.declared.step.Step.{Step}
 unfoldable pub headWithin : List ℕ → ℕ → Head
 headWithin run at = cond (ltb (length run) at) (head.Refused BadState) (headAt run at)
 
--- past a record; where it was at the end and on a refusal
+-- advances past a record; stays put at the end or on a refusal
 abbrev pub placeAfter : Head → ℕ → ℕ
 placeAfter head.Nothing at = at
 placeAfter (head.Record r) at = r .next

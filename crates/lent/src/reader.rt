@@ -14,14 +14,14 @@ pub struct RunReader<'a> {
     pub at: usize,
 }
 
-// At the run's start.
+// A reader at the run's start.
 pub fn new<'a>(run: &'a [u8]) -> RunReader<'a>
     ensures answers { λ r. ⌜ r ≡ readerAt (run .entry) 0 ⌝ }
 {
     RunReader { run, at: 0 }
 }
 
-// The record at the position, and the reader past it; or the end or a refusal, and the reader as it was.
+// Answers the record at the position and moves the reader past it. At the end, or on a refusal, the reader stays.
 pub fn next<'s, 'a>(reader: &'s mut RunReader<'a>) -> Head
     ensures answers { λ r. ⌜ r ≡ stepOf (now (reader .entry)) .head ⌝ }
     ensures moves { λ _. ⌜ now (reader .exit) ≡ movedOn (now (reader .entry)) ⌝ }
@@ -38,14 +38,14 @@ pub fn key<'a>(reader: RunReader<'a>, found: Record) -> &'a [u8]
     found.key_in(reader.run)
 }
 
-// And its value.
+// A record's value, where it lies in the run.
 pub fn value<'a>(reader: RunReader<'a>, found: Record) -> &'a [u8]
     ensures answers { λ r. ⌜ now r ≡ valueIn (now (reader .entry .run)) found ⌝ }
 {
     found.value_in(reader.run)
 }
 
-// One step of a reader that is made for it: for callers that hold no reader.
+// One step at a position, for callers that hold no reader.
 pub fn read_at(run: &[u8], at: usize) -> Step
     ensures answers { λ r. ⌜ r ≡ stepAt (now (run .entry)) at ⌝ }
 {

@@ -21,7 +21,7 @@ fn head_within(run: &[u8], at: usize) -> Head
     head_at(run, at)
 }
 
-// Past a record; where it was at the end and on a refusal.
+// Advances past a record; stays put at the end or on a refusal.
 fn place_after(head: Head, at: usize) -> usize
     ensures answers { λ r. ⌜ r ≡ placeAfter head at ⌝ }
 {

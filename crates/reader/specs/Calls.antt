@@ -113,7 +113,7 @@ readBytes r flash buffer =
 
 -- ---- skip
 
--- so many bytes were passed as were asked for, less those that were not there
+-- the bytes passed are those asked for, less those that were missing
 abbrev pub passageOf : PageReader → ℕ → Passed → Passage
 passageOf r n (passed.To s left) = record { answer = count.Bytes (n - left); reader = s }
 passageOf r n passed.Corrupted = record { answer = count.Refused row.Corrupted; reader = r }

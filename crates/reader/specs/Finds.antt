@@ -41,7 +41,7 @@ readOn further buffer (count.Bytes zero) r = nothingMore Fine
 readOn further buffer (count.Bytes (suc n)) r = andThen (take (suc n) buffer) (further r)
 readOn further buffer (count.Refused why) r = nothingMore (Refused why)
 
--- at most so many reads, each into the next of the buffers
+-- at most n reads, each into the next of the buffers
 unfoldable pub reads : ℕ → (ℕ → List ℕ) → List ℕ → PageReader → Found
 reads zero buffers flash r = nothingMore Fine
 reads (suc n) buffers flash r =

@@ -47,7 +47,7 @@ abbrev pub onward : (PageReader → Passed) → Arrived → Passed
 onward further (At s) = further s
 onward further Corrupted = passed.Corrupted
 
--- past so many bytes, over at most so many chunks: where the present chunk has too few, the rest of them after it
+-- past `count` bytes, over at most n chunks: if the present chunk has too few, the others come from the chunks after it
 unfoldable pub skipBy : ℕ → List ℕ → ℕ → PageReader → Passed
 skipBy zero page count r = passed.To r count
 skipBy (suc n) page count r =
@@ -55,6 +55,6 @@ skipBy (suc n) page count r =
     (cond (leb count (length (restOf page r))) (passed.To (past r count) 0)
     (onward (skipBy n page (count - length (restOf page r))) (moved page (past r (length (restOf page r))))))
 
--- past so many bytes, or to the end: every chunk takes at least its header, so no page has more of them
+-- past `count` bytes, or to the end: every chunk takes at least its header, so no page has more chunks
 unfoldable pub skipped : List ℕ → ℕ → PageReader → Passed
 skipped page count r = skipBy (suc (pageSize / chunkHeaderSize)) page count r

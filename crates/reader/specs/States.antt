@@ -4,7 +4,7 @@ use Rattle.types.specs.declared.page_id.PageID.{PageID}
 use Rattle.reader.specs.declared.page_reader.PageReader.{PageReader}
 use Rattle.reader.specs.declared.dehydrated.DehydratedPageReader.{DehydratedPageReader}
 
--- a reader of this page that is nowhere yet
+-- a reader of this page that is in no chunk yet
 abbrev pub unread : PageID → PageReader
 unread page = record { page = page; ended = false; offset = 0; len = 0; crc = 0; position = 0 }
 

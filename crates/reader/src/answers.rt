@@ -7,7 +7,7 @@ use crate::page_reader::PageReader;
 use types::page_id::PageID;
 use types::refusal::Refusal;
 
-// Of open, read_header and rehydrate_from.
+// The answer of open, read_header and rehydrate_from.
 pub enum Outcome {
     Done,
     Refused(Refusal),
@@ -29,7 +29,7 @@ pub struct Opening {
     pub reader: PageReader,
 }
 
-// Of read and skip: how many bytes were read or passed.
+// The answer of read and skip: how many bytes were read or passed.
 pub enum Count {
     Bytes(usize),
     Refused(Refusal),
@@ -51,7 +51,7 @@ pub struct Passage {
     pub reader: PageReader,
 }
 
-// Of is_at_eof.
+// The answer of is_at_eof.
 pub enum EndTest {
     AtEnd,
     More,
@@ -75,7 +75,7 @@ pub struct EndTested {
     pub reader: PageReader,
 }
 
-// Of dehydrate.
+// The answer of dehydrate.
 pub enum Dehydration {
     State(DehydratedPageReader),
     Refused(Refusal),
@@ -92,7 +92,7 @@ impl Dehydration {
     }
 }
 
-// Of page_id.
+// The answer of page_id.
 pub enum Page {
     Number(PageID),
     Refused(Refusal),

@@ -1,4 +1,4 @@
-// A page's higher header by itself (page.rs, read_header).
+// Reading a page's higher header alone (page.rs, read_header).
 use crate::answers::Outcome;
 use crate::check::check_open;
 use flash::geometry::page_of;
@@ -12,7 +12,7 @@ ghost use mathlib.Core.Path.{_≡_};
 ghost use lib.ListN.{length};
 ghost use Rattle.reader.specs.Calls.{readHeader, readHeaderBytes};
 
-// The header's bytes are put into the buffer, whose length is h, where the call succeeds.
+// If the call succeeds, the h bytes of the higher header are put into the buffer, whose length is h.
 pub fn read_header(flash: &[u8], magic: u32, page: PageID, header: &mut [u8]) -> Outcome
     ensures answers { λ r. ⌜ r ≡ readHeader (now (flash .entry)) magic page (length (now (header .entry))) ⌝ }
     ensures bytes { λ _. ⌜ now (header .exit) ≡ readHeaderBytes (now (flash .entry)) magic page (now (header .entry)) ⌝ }

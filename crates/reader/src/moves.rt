@@ -1,4 +1,4 @@
-// Where a reader goes on its page. The sum of a chunk is checked on arriving there; rehydrate_from checks a kept reader's again.
+// How a reader moves on its page. It checks the sum of a chunk when it arrives there; rehydrate_from checks that of a kept reader again.
 use crate::page_reader::PageReader;
 use page::chunk::Step;
 use page::chunk::align_up;
@@ -16,13 +16,13 @@ pub(crate) enum Arrived {
     Corrupted,
 }
 
-// The reader behind a skip, and how many of the bytes were not there to be passed.
+// The reader after a skip, and how many of the bytes were missing.
 pub(crate) enum Passed {
     To { reader: PageReader, left: usize },
     Corrupted,
 }
 
-// At what stands at an offset: the start of a chunk, or the end.
+// Moves the reader to `at`: the start of a chunk, or the end of the page's chunks.
 pub(crate) fn arrive(r: PageReader, page: &[u8], at: usize) -> Arrived
     ensures answers { λ a. ⌜ a ≡ arriving r at (checkedAt (now (page .entry)) at) ⌝ }
 {
@@ -48,7 +48,7 @@ pub(crate) fn arrive(r: PageReader, page: &[u8], at: usize) -> Arrived
     }
 }
 
-// At the chunk after the present one.
+// Moves the reader to the chunk after its own.
 fn next_chunk(r: PageReader, page: &[u8]) -> Arrived
     requires { ⌜ r .offset + 8 + r .len < 2 ^ 32 ⌝ }
     ensures answers { λ a. ⌜ a ≡ moved (now (page .entry)) r ⌝ }
@@ -60,7 +60,7 @@ fn next_chunk(r: PageReader, page: &[u8]) -> Arrived
     )
 }
 
-// With a byte to read, or at the end, or at an empty chunk: it moves once, where the present chunk is used up.
+// Makes the reader ready to read: if its chunk is used up, it moves to the next one, once.
 pub(crate) fn load(r: PageReader, page: &[u8]) -> Arrived
     requires { ⌜ Whole r ⌝ }
     ensures answers { λ a. ⌜ a ≡ ready (now (page .entry)) r ⌝ }
@@ -103,7 +103,7 @@ pub(crate) fn step_past(r: PageReader, n: usize) -> PageReader
     }
 }
 
-// Past so many bytes, or to the end.
+// Passes `count` bytes, or goes to the end.
 pub(crate) fn pass(reader: PageReader, page: &[u8], count: usize) -> Passed
     requires { ⌜ Whole reader ⌝ }
     ensures answers { λ p. ⌜ p ≡ skipped (now (page .entry)) count reader ⌝ }

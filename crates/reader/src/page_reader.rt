@@ -1,4 +1,4 @@
-// PageReader (page.rs), by value: where in a page reading goes on. No payload is copied, so a page is not to be erased while it
+// PageReader (page.rs), by value: where in a page the next read starts. No payload is copied, so a page must not be erased while it
 // is being read.
 use crate::answers::Count;
 use crate::answers::Dehydration;
@@ -48,7 +48,7 @@ pub struct PageReader {
     pub position: usize,
 }
 
-// A reader of this page that is nowhere yet.
+// A reader of this page that is in no chunk yet.
 fn unread_of(page: PageID) -> PageReader
     ensures answers { λ r. ⌜ r ≡ unread page ⌝ }
 {
@@ -69,7 +69,7 @@ impl PageReader {
         unread_of(PageID::zero())
     }
 
-    // To a page's first chunk. The header's bytes are put into the buffer, whose length is h, where the call succeeds.
+    // Opens a page at its first chunk. If that succeeds, the h bytes of the higher header are put into the buffer, whose length is h.
     pub fn open(self, flash: &[u8], magic: u32, page: PageID, header: &mut [u8]) -> Opening
         ensures answers { λ r. ⌜ r ≡ openPage self (now (flash .entry)) magic page (length (now (header .entry))) ⌝ }
         ensures bytes { λ _. ⌜ now (header .exit) ≡ openBytes self (now (flash .entry)) magic page (now (header .entry)) ⌝ }
@@ -101,7 +101,7 @@ impl PageReader {
         }
     }
 
-    // Up to a buffer of bytes from one chunk. It answers 0 at the end, and on arriving at an empty chunk.
+    // Reads as many bytes of one chunk as the buffer has room for. It answers 0 at the end, and on arriving at an empty chunk.
     pub fn read(self, flash: &[u8], buffer: &mut [u8]) -> Passage
         ensures answers { λ r. ⌜ r ≡ read self (now (flash .entry)) (length (now (buffer .entry))) ⌝ }
         ensures bytes { λ _. ⌜ now (buffer .exit) ≡ readBytes self (now (flash .entry)) (now (buffer .entry)) ⌝ }
@@ -129,7 +129,7 @@ impl PageReader {
         }
     }
 
-    // Past so many bytes, over as many chunks as that takes, or to the end.
+    // Skips `count` bytes, over as many chunks as that takes, or up to the end.
     pub fn skip(self, flash: &[u8], count: usize) -> Passage
         ensures answers { λ r. ⌜ r ≡ skip self (now (flash .entry)) count ⌝ }
     {
@@ -152,7 +152,7 @@ impl PageReader {
         }
     }
 
-    // Whether nothing is left. The reader that comes back has moved on from a chunk that was used up.
+    // Answers whether nothing is left to read. The reader that comes back has left a chunk that was used up.
     pub fn is_at_eof(self, flash: &[u8]) -> EndTested
         ensures answers { λ r. ⌜ r ≡ isAtEof self (now (flash .entry)) ⌝ }
     {
@@ -191,7 +191,7 @@ impl PageReader {
         Dehydration::State(stored_of(self))
     }
 
-    // A kept state's reader, once the payload of its chunk has passed its sum again.
+    // Makes a reader of a kept state, after the sum of its chunk's payload was checked again.
     pub fn rehydrate_from(self, flash: &[u8], dehydrated: DehydratedPageReader) -> Opening
         ensures answers { λ r. ⌜ r ≡ rehydrateFrom self (now (flash .entry)) dehydrated ⌝ }
     {

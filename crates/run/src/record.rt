@@ -51,7 +51,7 @@ impl Record {
         part(run, from, to)
     }
 
-    // And the value.
+    // The value, where it lies.
     pub fn value_in(self, run: &[u8]) -> &[u8]
         ensures answers { λ r. ⌜ now r ≡ valueIn (now (run .entry)) self ⌝ }
     {
@@ -92,7 +92,7 @@ fn wide_pair(low: u8, high: u8) -> usize
     (low as usize) + (high as usize) * 256
 }
 
-// The rest of a record of a good kind.
+// The lengths and the end of a record whose kind is good.
 fn body(run: &[u8], at: usize, deleted: bool) -> Head
     requires { ⌜ at + recordHeaderSize ≤ length (now run) ⌝ }
     ensures answers { λ r. ⌜ r ≡ bodyAt recordHeaderSize (now (run .entry)) at deleted ⌝ }

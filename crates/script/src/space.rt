@@ -1,4 +1,4 @@
-// Room for what a program reads. Their number is said once more for callers, since a list this long is not to be looked into.
+// Arrays for what a program reads. Each says its length once more, so that no caller has to look into a list this long.
 ghost use mathlib.Core.Path.{_≡_};
 ghost use lib.ListN.{length};
 ghost use Rattle.slices.specs.Patch.{blank};

@@ -17,7 +17,7 @@ isNone raw = eqb raw noPage
 abbrev pub pageOfRaw : ℕ → MaybePageID
 pageOfRaw raw = cond (isNone raw) None (Some (record { 0 = raw }))
 
--- and back
+-- an optional page number as it is written
 abbrev pub rawOf : MaybePageID → ℕ
 rawOf None = noPage
 rawOf (Some page) = page .0

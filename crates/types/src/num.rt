@@ -1,4 +1,4 @@
-// The two operations on sizes that the language lacks.
+// Two operations on sizes that the language does not have.
 ghost use mathlib.Core.Path.{_≡_};
 ghost use Prim.Native.Nat.{_-_, min};
 

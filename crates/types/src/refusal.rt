@@ -7,7 +7,7 @@ pub enum Refusal {
     Corrupted,
     // The lowest key is live and longer than the key buffer.
     KeyBufferTooSmall,
-    // The same for its value.
+    // The lowest key is live and its value is longer than the value buffer.
     ValueBufferTooSmall,
     // A page at or above the count.
     OutOfRange,

@@ -11,7 +11,7 @@ use Rattle.flash.specs.Operations.{Op, erase, store, opIf}
 use Rattle.page.specs.Chunks.{chunkHeader, nextOffset}
 use Rattle.writer.specs.declared.page_writer.PageWriter.{PageWriter}
 
--- how many bytes the group has that is not finished
+-- how many bytes the unfinished group has
 abbrev pub inGroup : PageWriter → ℕ
 inGroup w = w .pending % align
 
@@ -19,7 +19,7 @@ inGroup w = w .pending % align
 abbrev pub payloadFrom : PageWriter → ℕ → ℕ
 payloadFrom w n = w .offset + chunkHeaderSize + n
 
--- where the group lies that is not finished
+-- where the unfinished group lies
 abbrev pub groupAt : PageWriter → ℕ
 groupAt w = payloadFrom w (w .pending - inGroup w)
 
@@ -35,7 +35,7 @@ lastGroup w = take (inGroup w) (w .buf) ++ padding w
 abbrev pub eraseOps : ℕ → PageWriter → List Op
 eraseOps e w = opIf (w .armed) (erase e)
 
--- the store of the group that is not finished
+-- the store of the unfinished group
 abbrev pub restOps : PageWriter → List Op
 restOps w = opIf (not (eqb (inGroup w) 0)) (store (groupAt w) (lastGroup w))
 
@@ -47,7 +47,7 @@ sealOp w = store (w .offset) (chunkHeader (w .pending) (finished (w .crc)))
 unfoldable pub chunkOps : ℕ → PageWriter → List Op
 chunkOps e w = eraseOps e w ++ restOps w ++ (sealOp w ∷ [])
 
--- the writer behind a chunk that is finished
+-- the writer after a finished chunk
 abbrev pub nextChunk : PageWriter → PageWriter
 nextChunk w =
     record {

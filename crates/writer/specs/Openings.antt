@@ -36,7 +36,7 @@ unfoldable pub opened : List ℕ → PageID → ℕ → PageWriter → ℕ → O
 opened xs page h w left =
     openedAfter (openVerdict (length xs) (page .0) h) w left (openAs (fresh true page h (firstChunk h)) left)
 
--- where to go on in a page whose chunks end at o: nowhere, if any byte from there on is not erased
+-- the offset at which a page whose chunks end at o is added to: the page's end, if any byte from o on is not erased
 abbrev pub resumeAt : ℕ → List ℕ → ℕ → ℕ
 resumeAt e page o = cond (allErased e (drop o page)) o pageSize
 

@@ -23,7 +23,7 @@ use Rattle.writer.specs.declared.answers.Taking.the-variants as taking
 use Rattle.writer.specs.declared.answers.Wrote.{Wrote}
 use Rattle.writer.specs.declared.page_writer.PageWriter.{PageWriter}
 
--- the operations were made and the writer goes on as next, or one was cut
+-- if all operations were made, the writer is `next`; if one was cut, it is as it was
 abbrev pub came : Spent → PageWriter → PageWriter → Ended
 came run next w =
     record {
@@ -42,7 +42,7 @@ abbrev pub endedFlash : Verdict → List Op → PageWriter → ℕ → List ℕ 
 endedFlash (Refused why) ops w left xs = xs
 endedFlash Fine ops w left xs = allowed (pageStart (w .page .0)) left ops xs
 
--- and the operations that it makes
+-- the operations that it makes
 abbrev pub endedOps : Verdict → List Op → ℕ → List Op
 endedOps (Refused why) ops left = []
 endedOps Fine ops left = take left ops

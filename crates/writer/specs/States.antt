@@ -28,7 +28,7 @@ inRange w =
     && leb (w .pending) (mostPending (w .offset))
     && leb (w .total) (w .offset - firstChunk (w .h) + w .pending)
 
--- a writer that goes on at an offset and has taken nothing: the sum is at its start, the group buffer is zero
+-- a writer that starts at an offset and has taken nothing: the sum is at its start, the group buffer is zero
 abbrev pub fresh : Bool → PageID → ℕ → ℕ → PageWriter
 fresh armed page h offset =
     record { page = page; h = h; armed = armed; crc = preset; buf = replicate align 0; total = 0; offset = offset; pending = 0 }

@@ -42,7 +42,7 @@ pageVerdict n p = cond (hasPage n p) Fine (Refused OutOfRange)
 abbrev pub lengthVerdict : ℕ → ℕ → Verdict
 lengthVerdict m h = cond (eqb m h && headerFine m) Fine (Refused BadHeader)
 
--- of two checks the first that refuses
+-- the first of two checks that refuses
 abbrev pub firstOf : Verdict → Verdict → Verdict
 firstOf Fine b = b
 firstOf (Refused why) b = Refused why

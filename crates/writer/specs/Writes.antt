@@ -19,23 +19,23 @@ takes n w = min n (min (pageSize - (w .offset + chunkHeaderSize + w .pending)) (
 
 -- ---- n bytes over the groups
 
--- what the group lacks that is not finished
+-- how many bytes complete the current group
 abbrev pub lacking : PageWriter → ℕ
 lacking w = alignUp (w .pending) - w .pending
 
--- how many of n bytes go to it
+-- how many of n bytes go to that group
 abbrev pub toGroup : PageWriter → ℕ → ℕ
 toGroup w n = min (lacking w) n
 
--- whether they complete it
+-- whether n bytes complete it
 abbrev pub completes : PageWriter → ℕ → Bool
 completes w n = not (eqb (lacking w) 0) && leb (lacking w) n
 
--- how many go to whole groups behind it
+-- how many of n bytes go to the whole groups behind it
 abbrev pub toWhole : PageWriter → ℕ → ℕ
 toWhole w n = (n - toGroup w n) / align * align
 
--- and where those lie
+-- where these whole groups lie
 abbrev pub wholeAt : PageWriter → ℕ → ℕ
 wholeAt w n = payloadFrom w (w .pending + toGroup w n)
 

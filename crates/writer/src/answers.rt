@@ -6,7 +6,7 @@ use super::page_writer::PageWriter;
 use types::page_id::PageID;
 use types::refusal::Refusal;
 
-// Of open and open_append.
+// The answer of open and open_append.
 pub enum Opening {
     Open,
     Refused(Refusal),
@@ -29,7 +29,7 @@ pub struct Opened {
     pub left: usize,
 }
 
-// Of write: how many bytes it took.
+// The answer of write: how many bytes it took.
 pub enum Taking {
     Took(usize),
     Refused(Refusal),
@@ -52,7 +52,7 @@ pub struct Wrote {
     pub left: usize,
 }
 
-// Of commit and write_header.
+// The answer of commit and write_header.
 pub enum Outcome {
     Done,
     Refused(Refusal),
@@ -75,7 +75,7 @@ pub struct Ended {
     pub left: usize,
 }
 
-// Of len.
+// The answer of len.
 pub enum Length {
     Bytes(usize),
     Refused(Refusal),
@@ -92,7 +92,7 @@ impl Length {
     }
 }
 
-// Of page_id.
+// The answer of page_id.
 pub enum Place {
     Page(PageID),
     Refused(Refusal),

@@ -1,4 +1,4 @@
-// Bytes laid into a lent buffer.
+// Putting bytes into a lent buffer.
 use slices::part::put;
 use types::num::least;
 ghost use mathlib.Core.Path.{_≡_};

@@ -41,7 +41,7 @@ pub(crate) fn in_range(w: PageWriter) -> bool
         & (old <= used)
 }
 
-// Of two checks the first that refuses.
+// The first of two checks that refuses.
 fn first(a: Verdict, b: Verdict) -> Verdict
     ensures answers { λ r. ⌜ r ≡ firstOf a b ⌝ }
 {
@@ -81,7 +81,7 @@ fn check_length(m: usize, h: usize) -> Verdict
     }
 }
 
-// Of write and commit.
+// The checks of write and commit.
 pub(crate) fn check_writer(bytes: usize, w: PageWriter) -> Verdict
     ensures answers { λ r. ⌜ r ≡ writerVerdict bytes w ⌝ }
 {
@@ -92,7 +92,7 @@ pub(crate) fn check_writer(bytes: usize, w: PageWriter) -> Verdict
     )
 }
 
-// Of write_header with m bytes.
+// The checks of write_header with m bytes.
 pub(crate) fn check_heading(bytes: usize, w: PageWriter, m: usize) -> Verdict
     ensures answers { λ r. ⌜ r ≡ headingVerdict bytes w m ⌝ }
 {
@@ -101,7 +101,7 @@ pub(crate) fn check_heading(bytes: usize, w: PageWriter, m: usize) -> Verdict
     first(check_flash(bytes), first(check_length(m, w.h), place))
 }
 
-// Of open and open_append.
+// The checks of open and open_append.
 pub(crate) fn check_open(bytes: usize, page: PageID, h: usize) -> Verdict
     ensures answers { λ r. ⌜ r ≡ openVerdict bytes (page .0) h ⌝ }
 {

@@ -24,7 +24,7 @@ ghost use Rattle.flash.specs.Operations.{spent, allowed};
 ghost use Rattle.writer.specs.Commits.{chunkOps, nextChunk};
 ghost use Rattle.writer.specs.Duties.{commitDuty, handsBack, leaves};
 
-// The operations that finish a chunk, if that is due. Where one is cut none is left, so the later ones make nothing.
+// The operations that finish a chunk, if that is due. If one is cut, `left` is 0, so the remaining ones do nothing.
 pub(crate) fn finish_chunk(due: bool, w: PageWriter, flash: &mut [u8], left: usize) -> Spent
     requires { ⌜ w .offset ≤ pageSize ⌝ }
     requires { ⌜ w .pending ≤ maxChunkSize ⌝ }
@@ -45,7 +45,7 @@ pub(crate) fn finish_chunk(due: bool, w: PageWriter, flash: &mut [u8], left: usi
     }
 }
 
-// The writer behind a chunk that is finished.
+// The writer after a finished chunk.
 pub(crate) fn next_chunk(w: PageWriter) -> PageWriter
     requires { ⌜ w .offset ≤ pageSize ⌝ }
     requires { ⌜ w .pending ≤ maxChunkSize ⌝ }

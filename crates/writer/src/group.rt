@@ -7,21 +7,21 @@ ghost use mathlib.Core.Path.{_≡_};
 ghost use Rattle.slices.specs.Patch.{patch};
 ghost use Rattle.writer.specs.Writes.{lacking, toGroup, toWhole, groupOf, bufferOf};
 
-// What the group lacks that is not finished.
+// How many bytes complete the current group.
 pub(crate) fn lacking(w: PageWriter) -> usize
     ensures answers { λ r. ⌜ r ≡ lacking w ⌝ }
 {
     (ALIGN - w.pending % ALIGN) % ALIGN
 }
 
-// How many of n bytes go to it.
+// How many of n bytes go to that group.
 pub(crate) fn to_group(w: PageWriter, n: usize) -> usize
     ensures answers { λ r. ⌜ r ≡ toGroup w n ⌝ }
 {
     least(lacking(w), n)
 }
 
-// How many go to whole groups behind it.
+// How many of n bytes go to the whole groups behind it.
 pub(crate) fn to_whole(w: PageWriter, n: usize) -> usize
     ensures answers { λ r. ⌜ r ≡ toWhole w n ⌝ }
 {
@@ -37,7 +37,7 @@ fn filled(buf: [u8; ALIGN], at: usize, bytes: &[u8]) -> [u8; ALIGN]
     b
 }
 
-// The group with the first bytes in it.
+// The current group with the first bytes in it.
 pub(crate) fn group_of(w: PageWriter, bytes: &[u8]) -> [u8; ALIGN]
     ensures answers { λ r. ⌜ r ≡ groupOf w (now (bytes .entry)) ⌝ }
 {
@@ -46,7 +46,7 @@ pub(crate) fn group_of(w: PageWriter, bytes: &[u8]) -> [u8; ALIGN]
     filled(buf, w.pending % ALIGN, &bytes[..n])
 }
 
-// The buffer once the whole groups are gone.
+// The group buffer after the whole groups are stored: the bytes left over are in it.
 pub(crate) fn buffer_of(w: PageWriter, bytes: &[u8]) -> [u8; ALIGN]
     ensures answers { λ r. ⌜ r ≡ bufferOf w (now (bytes .entry)) ⌝ }
 {

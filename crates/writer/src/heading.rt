@@ -24,7 +24,7 @@ ghost use Rattle.flash.specs.Operations.{spent, allowed};
 ghost use Rattle.writer.specs.Duties.{headingDuty, handsBack, leaves};
 ghost use Rattle.writer.specs.Headings.{headerRoom, headerOps};
 
-// A page header at the start of the longest one's room.
+// A page header at the start of an array that has room for the longest one.
 fn page_header(magic: u32, page: PageID, header: &[u8]) -> [u8; PAGE_HEADER_SIZE + MAX_HEADER_SIZE]
     ensures answers { λ r. ⌜ r ≡ headerRoom magic (page .0) (now (header .entry)) ⌝ }
 {

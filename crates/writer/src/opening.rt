@@ -18,7 +18,7 @@ ghost use mathlib.Core.Path.{_≡_};
 ghost use Rattle.types.specs.Build.{eraseValue};
 ghost use Rattle.writer.specs.Openings.{opened, resumeAt, appended};
 
-// Where to go on in a page whose chunks end at an offset.
+// The offset at which a page whose chunks end at `end` is added to.
 fn resume_at(page: &[u8], end: usize) -> usize
     ensures answers { λ r. ⌜ r ≡ resumeAt eraseValue (now (page .entry)) end ⌝ }
 {
@@ -30,7 +30,7 @@ fn resume_at(page: &[u8], end: usize) -> usize
 }
 
 impl PageWriter {
-    // To write a page anew: it is erased before the first store.
+    // Opens a page to write it anew. It is erased before the first store.
     pub fn open(self, flash: &[u8], page: PageID, h: usize, left: usize) -> Opened
         ensures answers { λ r. ⌜ r ≡ opened (now (flash .entry)) page h self left ⌝ }
     {
@@ -48,7 +48,7 @@ impl PageWriter {
         }
     }
 
-    // To add to a page, behind its chunks.
+    // Opens a page to add chunks behind those that it has.
     pub fn open_append(self, flash: &[u8], page: PageID, h: usize, left: usize) -> Opened
         ensures answers { λ r. ⌜ r ≡ appended eraseValue (now (flash .entry)) page h self left ⌝ }
     {

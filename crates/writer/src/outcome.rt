@@ -1,4 +1,4 @@
-// What a call hands back whose operations were run.
+// What a call hands back after its operations.
 use super::answers::Ended;
 use super::answers::Outcome;
 use super::answers::Taking;
@@ -9,7 +9,7 @@ use types::refusal::Refusal;
 ghost use mathlib.Core.Path.{_≡_};
 ghost use Rattle.writer.specs.Outcomes.{came, wrote};
 
-// All were made and the writer goes on as next, or one was cut.
+// If all operations were made, the writer is `next`; if one was cut, it is as it was.
 pub(crate) fn came(run: Spent, next: PageWriter, w: PageWriter) -> Ended
     ensures answers { λ r. ⌜ r ≡ came run next w ⌝ }
 {
@@ -28,7 +28,7 @@ pub(crate) fn came(run: Spent, next: PageWriter, w: PageWriter) -> Ended
     }
 }
 
-// A write that is done took n bytes.
+// A write that succeeded took n bytes.
 pub(crate) fn wrote(n: usize, e: Ended) -> Wrote
     ensures answers { λ r. ⌜ r ≡ wrote n e ⌝ }
 {

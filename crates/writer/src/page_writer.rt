@@ -17,19 +17,19 @@ pub struct PageWriter {
     pub h: usize,
     // Whether the page is erased before the first store.
     pub armed: bool,
-    // The sum of the pending bytes in the making.
+    // The running sum of the pending bytes.
     pub crc: u32,
-    // The group that is not finished, and behind its bytes whatever was there before.
+    // The unfinished group; behind its bytes, whatever was there before.
     pub buf: [u8; ALIGN],
     // Bytes taken since the page was opened.
     pub total: usize,
-    // Where the chunk starts that is being written, and how many bytes it has.
+    // Where the present chunk starts, and how many bytes it has.
     pub offset: usize,
     pub pending: usize,
 }
 
 impl PageWriter {
-    // A writer that goes on at an offset.
+    // A writer that starts at an offset and has taken nothing.
     pub(crate) fn fresh(armed: bool, page: PageID, h: usize, offset: usize) -> PageWriter
         ensures answers { λ r. ⌜ r ≡ fresh armed page h offset ⌝ }
     {

@@ -46,7 +46,7 @@ fn takes(n: usize, w: PageWriter) -> usize
     least(n, least(page, chunk))
 }
 
-// The writer with these bytes.
+// The writer after it took these bytes.
 fn grown(w: PageWriter, bytes: &[u8]) -> PageWriter
     requires { ⌜ w .total ≤ pageSize ⌝ }
     requires { ⌜ w .pending + length (now bytes) ≤ maxChunkSize ⌝ }
@@ -65,7 +65,7 @@ fn grown(w: PageWriter, bytes: &[u8]) -> PageWriter
     }
 }
 
-// A chunk that is full is finished.
+// The writer after its chunk, if that is full.
 fn closed(w: PageWriter) -> PageWriter
     requires { ⌜ w .offset ≤ pageSize ⌝ }
     requires { ⌜ w .pending ≤ maxChunkSize ⌝ }
@@ -78,8 +78,8 @@ fn closed(w: PageWriter) -> PageWriter
     }
 }
 
-// The operations of a write that takes these bytes, where `next` is the writer with them. Where one is cut none is left, so the
-// later ones make nothing.
+// The operations of a write that takes these bytes, where `next` is the writer with them. If one is cut, `left` is 0, so the
+// remaining ones do nothing.
 fn take_bytes(w: PageWriter, next: PageWriter, flash: &mut [u8], bytes: &[u8], left: usize) -> Spent
     requires { ⌜ w .offset ≤ pageSize ⌝ }
     requires { ⌜ w .pending + length (now bytes) ≤ maxChunkSize ⌝ }
