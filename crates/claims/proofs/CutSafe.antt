@@ -1,4 +1,4 @@
--- Demand 3: what a new reader finds after a cut. A new reader opens the page and reads to the end, each read into a buffer that
+-- What a new reader finds after a cut (docs/RULES.md, Stores left). A new reader opens the page and reads to the end, each read into a buffer that
 -- holds a whole chunk; `found` is what its calls hand out and how they end. Assumes nothing.
 use mathlib.Core.Path.{_≡_, ap, _∙_}
 use mathlib.Core.Bool.{true}

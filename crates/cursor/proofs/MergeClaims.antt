@@ -1,4 +1,4 @@
--- The claim that the growers rely on. On runs that read to their ends with strictly rising keys, a new cursor is made, and
+-- The claim on a whole merge (docs/RULES.md, Merge). On runs that read to their ends with strictly rising keys, a new cursor is made, and
 -- calls of next with room for any key and value hand out exactly the live keys of all runs together that lie within the
 -- bounds, the newest run deciding each key, in rising order, each once. Assumes nothing.
 use mathlib.Core.Path.{_≡_, refl, sym, _∙_, subst}
