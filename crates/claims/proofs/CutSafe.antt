@@ -1,5 +1,5 @@
--- What a new reader finds after a cut (docs/RULES.md, Stores left). A new reader opens the page and reads to the end, each read into a buffer that
--- holds a whole chunk; `found` is what its calls hand out and how they end. Assumes nothing.
+-- What a new reader finds after a cut (docs/RULES.md, Stores left). A new reader opens the page and reads to the end, each read
+-- into a buffer that holds a whole chunk; `found` is what its calls hand out and how they end. Assumes nothing.
 use mathlib.Core.Path.{_≡_, ap, _∙_}
 use mathlib.Core.Bool.{true}
 use mathlib.Core.List.{List, [], _∷_, _++_}
