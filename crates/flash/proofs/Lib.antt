@@ -1,4 +1,5 @@
 pub mod GeometryLaws
 pub mod LentLaws
+pub mod LiesOnLaws
 pub mod OperationLaws
 pub mod PageLaws

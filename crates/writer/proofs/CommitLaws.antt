@@ -9,9 +9,10 @@ use borrow.Author.Tests.{eq-eqb, ne-eqb}
 use Rattle.types.specs.declared.refusal.Verdict.the-variants.{Fine}
 use Rattle.crc.specs.Register.{finished}
 use Rattle.flash.specs.Geometry.{pageStart}
-use Rattle.flash.specs.Operations.{erase, store, opIf}
+use Rattle.flash.specs.Operations.{erase, store, opIf, allLieOn}
 use Rattle.flash.specs.declared.ops.Spent.{Spent}
-use Rattle.flash.proofs.OperationLaws.{Ran, ran-append}
+use Rattle.flash.proofs.LiesOnLaws.{RanOn, lies-both, on-ran, ran-next}
+use Rattle.flash.proofs.OperationLaws.{Ran}
 use Rattle.page.specs.Chunks.{chunkHeader}
 use Rattle.writer.specs.Commits.{inGroup, groupAt, lastGroup, sealOp, chunkOps, nextChunk}
 use Rattle.writer.specs.Duties.{commitDuty}
@@ -33,18 +34,27 @@ unfolding chunkOps
 chunk-due e true w = refl
 chunk-due e false w = refl
 
+-- the runs of the three, one after the other; v₀ to v₃ is the flash before, between and after them
 pub chunk-ran : (e left : ℕ) (due : Bool) (w : PageWriter) (head v₀ v₁ v₂ v₃ : List ℕ) (x y z : Spent)
+    → allLieOn (length v₀) (w .page .0) (cond due (chunkOps e w) []) ≡ true
     → head ≡ chunkHeader (w .pending) (finished (w .crc))
-    → Ran (pageStart (w .page .0)) left (opIf (due && w .armed) (erase e)) v₀ x v₁
-    → Ran (pageStart (w .page .0)) (x .left) (opIf (due && not (eqb (inGroup w) 0)) (store (groupAt w) (w .buf))) v₁ y v₂
-    → Ran (pageStart (w .page .0)) (y .left) (opIf due (store (w .offset) head)) v₂ z v₃
+    → RanOn (w .page .0) left (opIf (due && w .armed) (erase e)) v₀ x v₁
+    → RanOn (w .page .0) (x .left) (opIf (due && not (eqb (inGroup w) 0)) (store (groupAt w) (w .buf))) v₁ y v₂
+    → RanOn (w .page .0) (y .left) (opIf due (store (w .offset) head)) v₂ z v₃
     → Ran (pageStart (w .page .0)) left (cond due (chunkOps e w) []) v₀ (record { ok = x .ok && y .ok && z .ok; left = z .left }) v₃
-chunk-ran e left due w head v₀ v₁ v₂ v₃ x y z h p q r =
-    let base = pageStart (w .page .0) in
+chunk-ran e left due w head v₀ v₁ v₂ v₃ x y z lie h p q r =
+    let page = w .page .0 in
+    let a = opIf (due && w .armed) (erase e) in
+    let b = opIf (due && not (eqb (inGroup w) 0)) (store (groupAt w) (lastGroup w)) in
+    let c = opIf due (sealOp w) in
+    let all = lies-both (length v₀) page (a ++ b) c (rw (← (chunk-due e due w)) at lie) in
+    let two = lies-both (length v₀) page a b (all .0) in
+    let first = on-ran page left a v₀ v₁ x (two .0) p in
     let second = rw (← (last-group w)) at q in
     let third = rw h at r in
     rw (← (chunk-due e due w))
-    (ran-append base left _ _ v₀ v₂ v₃ (record { ok = x .ok && y .ok; left = y .left }) z (ran-append base left _ _ v₀ v₁ v₂ x y p second) third)
+    (ran-next page left (a ++ b) c v₀ v₂ v₃ (record { ok = x .ok && y .ok; left = y .left }) z (all .1)
+    (ran-next page left a b v₀ v₁ v₂ x y (two .1) first second) third)
 
 -- ---- commit
 

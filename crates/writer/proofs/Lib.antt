@@ -3,6 +3,7 @@ pub mod CleanLaws
 pub mod CommitLaws
 pub mod GroupLaws
 pub mod HeadingLaws
+pub mod LiesOnLaws
 pub mod OpeningLaws
 pub mod OutcomeLaws
 pub mod PlaceLaws

@@ -19,5 +19,8 @@ use Rattle.writer.specs.Verdicts.{writerVerdict, headingVerdict, openVer
 use Rattle.writer.specs.Writes.{groupOf, bufferOf, payloadOps, takingOps}
 
 pub starred-hold : map resultOf starred ≡ map expected starred
-unfolding word bytesOf crc.bits crc.number crc.message crc.among crc.terms crc.generator xor crc.plus crc.divided crc.dividend crc.remainder crc.published tap stepped steps taken updated over patch blank chunkHeader chunkAt pageHeader walk walkFrom allErased answerTo madeBy leftBy leftAfter chunkOps headerOps opened appended placeOf outcomeOf outcomesFrom resultOf expected starred inRange writerVerdict headingVerdict openVerdict groupOf bufferOf payloadOps takingOps
+unfolding word bytesOf crc.bits crc.number crc.message crc.among crc.terms crc.generator xor crc.plus crc.divided crc.dividend crc.remainder
+    crc.published tap stepped steps taken updated over patch blank chunkHeader chunkAt pageHeader walk walkFrom allErased answerTo madeBy leftBy
+    leftAfter chunkOps headerOps opened appended placeOf outcomeOf outcomesFrom resultOf expected starred inRange writerVerdict headingVerdict
+    openVerdict groupOf bufferOf payloadOps takingOps
 starred-hold = refl

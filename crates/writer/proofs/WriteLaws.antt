@@ -1,7 +1,7 @@
 -- The operations of a write, run one after the other. Assumes nothing.
 use mathlib.Core.Path.{_≡_, sym, ap, _∙_}
-use mathlib.Core.Bool.{cond, not, _&&_}
-use mathlib.Core.List.{List, [], append-assoc}
+use mathlib.Core.Bool.{true, cond, not, _&&_}
+use mathlib.Core.List.{List, [], _++_, append-assoc}
 use Prim.Native.Nat.{ℕ, _+_, _-_, _≤_, min}
 use native.Mathlib.Omega.{arith}
 use lib.Dec.{eqb, leb}
@@ -12,38 +12,49 @@ use Rattle.types.specs.declared.refusal.Refusal.{Refusal}
 use Rattle.types.specs.declared.refusal.Verdict.{Verdict}
 use Rattle.types.specs.declared.refusal.Verdict.the-variants.{Fine, Refused}
 use Rattle.flash.specs.Geometry.{pageStart}
-use Rattle.flash.specs.Operations.{erase, store, opIf}
+use Rattle.flash.specs.Operations.{erase, store, opIf, allLieOn}
 use Rattle.flash.specs.declared.ops.Spent.{Spent}
+use Rattle.flash.proofs.LiesOnLaws.{RanOn, lies-both, on-ran, ran-next}
 use Rattle.flash.proofs.OperationLaws.{Ran, ran-append}
 use Rattle.writer.specs.Commits.{payloadFrom, groupAt, chunkOps}
 use Rattle.writer.specs.Duties.{Duty, writeDuty, handsBack, leaves}
 use Rattle.writer.specs.Outcomes.{came, wrote}
 use Rattle.writer.specs.Verdicts.{writerVerdict}
-use Rattle.writer.specs.Writes.{takes, lacking, toGroup, completes, toWhole, groupOf, grown, closed, payloadOps, takingOps}
+use Rattle.writer.specs.Writes.{takes, lacking, toGroup, completes, toWhole, wholeAt, groupOf, wholeOf, grown, closeOps, closed, payloadOps, takingOps}
 use Rattle.writer.specs.declared.answers.Ended.{Ended}
 use Rattle.writer.specs.declared.answers.Taking.the-variants as taking
 use Rattle.writer.specs.declared.answers.Wrote.{Wrote}
 use Rattle.writer.specs.declared.page_writer.PageWriter.{PageWriter}
 use Rattle.writer.proofs.OutcomeLaws.{ends-refused, ends-ran, ends-none}
 
+-- the runs of the erase, the group, the whole groups and the chunk's end; v₀ to v₄ is the flash before, between and after them
 pub taking-ran : (e left lack first many : ℕ) (w next : PageWriter) (bytes group part v₀ v₁ v₂ v₃ v₄ : List ℕ) (x y z u : Spent)
+    → allLieOn (length v₀) (w .page .0) (takingOps e w bytes) ≡ true
     → lack ≡ lacking w → first ≡ toGroup w (length bytes) → many ≡ toWhole w (length bytes)
     → group ≡ groupOf w bytes → part ≡ take many (drop first bytes) → next ≡ grown w bytes
-    → Ran (pageStart (w .page .0)) left (opIf (w .armed) (erase e)) v₀ x v₁
-    → Ran (pageStart (w .page .0)) (x .left) (opIf (not (eqb lack 0) && leb lack (length bytes)) (store (groupAt w) group)) v₁ y v₂
-    → Ran (pageStart (w .page .0)) (y .left) (opIf (not (eqb many 0)) (store (payloadFrom w (w .pending + first)) part)) v₂ z v₃
+    → RanOn (w .page .0) left (opIf (w .armed) (erase e)) v₀ x v₁
+    → RanOn (w .page .0) (x .left) (opIf (not (eqb lack 0) && leb lack (length bytes)) (store (groupAt w) group)) v₁ y v₂
+    → RanOn (w .page .0) (y .left) (opIf (not (eqb many 0)) (store (payloadFrom w (w .pending + first)) part)) v₂ z v₃
     → Ran (pageStart (next .page .0)) (z .left) (cond (eqb (next .pending) maxChunkSize) (chunkOps e next) []) v₃ u v₄
     → Ran (pageStart (w .page .0)) left (takingOps e w bytes) v₀ (record { ok = x .ok && y .ok && z .ok && u .ok; left = u .left }) v₄
 unfolding takingOps payloadOps
-taking-ran e left lack first many w next bytes group part v₀ v₁ v₂ v₃ v₄ x y z u el ef em eg ep en p q r s =
-    let base = pageStart (w .page .0) in
-    let second = rw (el, eg) at q in
-    let third = rw (ep, em, ef) at r in
-    let last = rw en at s in
-    rw (← (append-assoc (opIf (w .armed) (erase e)) (opIf (completes w (length bytes)) (store (groupAt w) (groupOf w bytes))) _))
-    (ran-append base left _ _ v₀ v₃ v₄ (record { ok = x .ok && y .ok && z .ok; left = z .left }) u
-    (ran-append base left _ _ v₀ v₂ v₃ (record { ok = x .ok && y .ok; left = y .left }) z (ran-append base left _ _ v₀ v₁ v₂ x y p second) third)
-    last)
+taking-ran e left lack first many w next bytes group part v₀ v₁ v₂ v₃ v₄ x y z u lie el ef em eg ep en p q r s =
+    let page = w .page .0 in
+    let a = opIf (w .armed) (erase e) in
+    let b = opIf (completes w (length bytes)) (store (groupAt w) (groupOf w bytes)) in
+    let c = opIf (not (eqb (toWhole w (length bytes)) 0)) (store (wholeAt w (length bytes)) (wholeOf w bytes)) in
+    let d = closeOps e (grown w bytes) in
+    let erasing = lies-both (length v₀) page a (b ++ c) (lies-both (length v₀) page (a ++ (b ++ c)) d lie .0) in
+    let storing = lies-both (length v₀) page b c (erasing .1) in
+    let one = on-ran page left a v₀ v₁ x (erasing .0) p in
+    let two = rw (el, eg) at q in
+    let three = rw (ep, em, ef) at r in
+    let four = rw en at s in
+    rw (← (append-assoc a b c))
+    (ran-append (pageStart page) left ((a ++ b) ++ c) d v₀ v₃ v₄ (record { ok = x .ok && y .ok && z .ok; left = z .left }) u
+    (ran-next page left (a ++ b) c v₀ v₂ v₃ (record { ok = x .ok && y .ok; left = y .left }) z (storing .1)
+    (ran-next page left a b v₀ v₁ v₂ x y (storing .0) one two) three)
+    four)
 
 -- ---- what is taken fits
 

@@ -15,19 +15,22 @@ use types::config::CHUNK_HEADER_SIZE;
 use types::config::ERASE_VALUE;
 use types::refusal::Verdict;
 ghost use mathlib.Core.Path.{_≡_};
-ghost use mathlib.Core.Bool.{cond};
+ghost use mathlib.Core.Bool.{cond, true};
 ghost use mathlib.Core.List.{[]};
 ghost use Prim.Native.Nat.{_≤_};
+ghost use lib.ListN.{length};
 ghost use Rattle.types.specs.Build.{pageSize, maxChunkSize, eraseValue};
 ghost use Rattle.flash.specs.Geometry.{pageStart};
-ghost use Rattle.flash.specs.Operations.{spent, allowed};
+ghost use Rattle.flash.specs.Operations.{spent, allowed, allLieOn};
 ghost use Rattle.writer.specs.Commits.{chunkOps, nextChunk};
 ghost use Rattle.writer.specs.Duties.{commitDuty, handsBack, leaves};
 
-// The operations that finish a chunk, if that is due. If one is cut, `left` is 0, so the remaining ones do nothing.
+// The operations that finish a chunk, if that is due. They lie on the flash. If one is cut, none is left, so the later ones make
+// nothing.
 pub(crate) fn finish_chunk(due: bool, w: PageWriter, flash: &mut [u8], left: usize) -> Spent
     requires { ⌜ w .offset ≤ pageSize ⌝ }
     requires { ⌜ w .pending ≤ maxChunkSize ⌝ }
+    requires { ⌜ allLieOn (length (now flash)) (w .page .0) (cond due (chunkOps eraseValue w) []) ≡ true ⌝ }
     ensures answers { λ r. ⌜ r ≡ spent left (cond due (chunkOps eraseValue w) []) ⌝ }
     ensures bytes { λ _. ⌜ now (flash .exit) ≡ allowed (pageStart (w .page .0)) left (cond due (chunkOps eraseValue w) []) (now (flash .entry)) ⌝ }
 {

@@ -16,11 +16,12 @@ use types::config::PAGE_HEADER_SIZE;
 use types::page_id::PageID;
 use types::refusal::Verdict;
 ghost use mathlib.Core.Path.{_≡_};
+ghost use mathlib.Core.Bool.{true};
 ghost use Prim.Native.Nat.{_≤_};
 ghost use lib.ListN.{length};
 ghost use Rattle.types.specs.Build.{maxHeaderSize, eraseValue};
 ghost use Rattle.flash.specs.Geometry.{pageStart};
-ghost use Rattle.flash.specs.Operations.{spent, allowed};
+ghost use Rattle.flash.specs.Operations.{spent, allowed, allLieOn};
 ghost use Rattle.writer.specs.Duties.{headingDuty, handsBack, leaves};
 ghost use Rattle.writer.specs.Headings.{headerRoom, headerOps};
 
@@ -39,9 +40,10 @@ fn page_header(magic: u32, page: PageID, header: &[u8]) -> [u8; PAGE_HEADER_SIZE
     room
 }
 
-// The operations of write_header.
+// The operations of write_header. They lie on the flash.
 fn head_page(w: PageWriter, flash: &mut [u8], magic: u32, header: &[u8], left: usize) -> Spent
     requires { ⌜ length (now header) ≤ maxHeaderSize ⌝ }
+    requires { ⌜ allLieOn (length (now flash)) (w .page .0) (headerOps eraseValue w magic (now header)) ≡ true ⌝ }
     ensures answers { λ r. ⌜ r ≡ spent left (headerOps eraseValue w magic (now (header .entry))) ⌝ }
     ensures bytes { λ _. ⌜ now (flash .exit) ≡ allowed (pageStart (w .page .0)) left (headerOps eraseValue w magic (now (header .entry))) (now (flash .entry)) ⌝ }
 {

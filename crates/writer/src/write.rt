@@ -26,11 +26,12 @@ use types::num::least;
 use types::num::less;
 use types::refusal::Verdict;
 ghost use mathlib.Core.Path.{_≡_};
+ghost use mathlib.Core.Bool.{true};
 ghost use Prim.Native.Nat.{_+_, _≤_};
 ghost use lib.ListN.{length};
 ghost use Rattle.types.specs.Build.{pageSize, maxChunkSize, eraseValue};
 ghost use Rattle.flash.specs.Geometry.{pageStart};
-ghost use Rattle.flash.specs.Operations.{spent, allowed};
+ghost use Rattle.flash.specs.Operations.{spent, allowed, allLieOn};
 ghost use Rattle.writer.specs.Duties.{writeDuty, handsBack, leaves};
 ghost use Rattle.writer.specs.Outcomes.{wrote};
 ghost use Rattle.writer.specs.Writes.{takes, grown, closed, takingOps};
@@ -78,12 +79,13 @@ fn closed(w: PageWriter) -> PageWriter
     }
 }
 
-// The operations of a write that takes these bytes, where `next` is the writer with them. If one is cut, `left` is 0, so the
-// remaining ones do nothing.
+// The operations of a write that takes these bytes, where `next` is the writer with them. They lie on the flash. If one is cut, none
+// is left, so the later ones make nothing.
 fn take_bytes(w: PageWriter, next: PageWriter, flash: &mut [u8], bytes: &[u8], left: usize) -> Spent
     requires { ⌜ w .offset ≤ pageSize ⌝ }
     requires { ⌜ w .pending + length (now bytes) ≤ maxChunkSize ⌝ }
     requires { ⌜ next ≡ grown w (now bytes) ⌝ }
+    requires { ⌜ allLieOn (length (now flash)) (w .page .0) (takingOps eraseValue w (now bytes)) ≡ true ⌝ }
     ensures answers { λ r. ⌜ r ≡ spent left (takingOps eraseValue w (now (bytes .entry))) ⌝ }
     ensures bytes { λ _. ⌜ now (flash .exit) ≡ allowed (pageStart (w .page .0)) left (takingOps eraseValue w (now (bytes .entry))) (now (flash .entry)) ⌝ }
 {

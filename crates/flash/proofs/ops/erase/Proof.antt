@@ -1,4 +1,4 @@
--- `flash::ops::erase` meets its contract. Assumes nothing.
+-- The page is lent, every byte of it is set, and it is put back (`erase-lent`). Assumes nothing.
 use mathlib.Core.Path.{_∙_}
 use Rattle.flash.specs.Geometry.{pageStart}
 use Rattle.flash.proofs.LentLaws.{erase-lent}
@@ -35,9 +35,13 @@ same-length c = search needs
 
 returns : tie.Need-returns
 returns c =
-    let a = c .before .before .before .before .before .before .before .before .args in
-    erase-lent (a .value) (pageStart (a .page .0)) (c .before .before .before .before .before .least .result) (c .before .before .before .before .least2 .result) (a .flash .now) (c .before .before .wipe .last .0)
-    (c .before .before .before .before .before .least .ensures ∙ rw (c .before .before .before .before .before .before .page-start .ensures)) (c .before .before .before .before .least2 .ensures) (c .before .before .wipe .ensures)
+    let wiped = c .before .before in
+    let end = wiped .before .before in
+    let start = end .before in
+    let page = start .before in
+    let a = page .before .before .args in
+    erase-lent (a .value) (pageStart (a .page .0)) (start .least .result) (end .least2 .result) (a .flash .now) (wiped .wipe .last .0)
+    (start .least .ensures ∙ rw (page .page-start .ensures)) (end .least2 .ensures) (wiped .wipe .ensures)
 
 pub erase-spec : {M : Type 1} → statement M
 erase-spec =

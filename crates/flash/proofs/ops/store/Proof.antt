@@ -1,4 +1,4 @@
--- `flash::ops::store` meets its contract. Assumes nothing.
+-- The part of the flash from the store on is lent, takes the bytes at its start, and is put back (`store-lent`). Assumes nothing.
 use mathlib.Core.Path.{_∙_}
 use native.Mathlib.Omega.{arith}
 use lib.ListN.{length-take}
@@ -46,9 +46,15 @@ same-length c = search needs
 
 returns : tie.Need-returns
 returns c =
-    let a = c .before .before .before .before .before .before .before .before .before .before .before .args in
-    store-lent (pageStart (a .page .0)) (a .at) (c .before .before .before .before .before .before .before .before .less .result) (c .before .before .before .before .before .before .before .least .result) (c .before .before .before .before .before .least2 .result) (a .bytes .now) (a .flash .now) (c .before .before .put .last .0)
-    (c .before .before .before .before .before .before .before .before .less .ensures) (c .before .before .before .before .before .before .before .least .ensures) (c .before .before .before .before .before .least2 .ensures ∙ rw (c .before .before .before .before .before .before .page-start .ensures)) (c .before .before .put .ensures)
+    let put = c .before .before in
+    let from = put .before .before .before in
+    let start = from .before in
+    let count = start .before in
+    let room = count .before in
+    let a = room .before .before .before .args in
+    store-lent (pageStart (a .page .0)) (a .at) (room .less .result) (count .least .result) (from .least2 .result)
+    (a .bytes .now) (a .flash .now) (put .put .last .0)
+    (room .less .ensures) (count .least .ensures) (from .least2 .ensures ∙ rw (start .page-start .ensures)) (put .put .ensures)
 
 pub store-spec : {M : Type 1} → statement M
 store-spec =

@@ -1,4 +1,4 @@
--- `writer::buffer::lay` meets its contract. Assumes nothing.
+-- The part of the buffer from the index on is lent, takes the bytes at its start, and is put back (`lay-back`). Assumes nothing.
 use Rattle.writer.proofs.GroupLaws.{lay-back}
 use borrow.Author.Needs.{needs}
 use Rattle.writer.proofs.buffer.lay.Statement.{statement}
@@ -23,7 +23,11 @@ same-length : tie.Need-same-length
 same-length c = search needs
 
 returns : tie.Need-returns
-returns c = lay-back (c .before .before .before .before .before .before .before .args .at) (c .before .before .before .before .least .result) (c .before .before .before .before .before .before .before .args .bytes .now) (c .before .before .before .before .before .before .before .args .buffer .now) (c .before .before .put .last .0) (c .before .before .before .before .least .ensures) (c .before .before .put .ensures)
+returns c =
+    let put = c .before .before in
+    let from = put .before .before in
+    let a = from .before .before .before .args in
+    lay-back (a .at) (from .least .result) (a .bytes .now) (a .buffer .now) (put .put .last .0) (from .least .ensures) (put .put .ensures)
 
 pub lay-spec : {M : Type 1} → statement M
 lay-spec =

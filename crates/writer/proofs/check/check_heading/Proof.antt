@@ -1,4 +1,4 @@
--- `writer::check::check_heading` meets its contract. Assumes nothing.
+-- The first check that refuses, of four in their order (`heading-first`). Assumes nothing.
 use mathlib.Core.Path.{_∙_}
 use Rattle.writer.proofs.CheckLaws.{heading-first}
 use borrow.Author.Needs.{needs}
@@ -28,9 +28,15 @@ first-requires-3 c κs = search needs
 
 returns : tie.Need-returns
 returns c =
+    let length = c .before .before in
+    let flash = length .before in
+    let place = flash .before in
+    let page = place .before in
+    let state = page .before in
+    let a = state .before .before .args in
     c .first3 .ensures
-    ∙ rw (c .before .before .before .check-flash .ensures, c .before .first2 .ensures, c .before .before .check-length .ensures, c .before .before .before .before .first .ensures, c .before .before .before .before .before .before .check-state .ensures, c .before .before .before .before .before .check-page .ensures)
-    (heading-first (c .before .before .before .before .before .before .before .before .args .bytes) (c .before .before .before .before .before .before .before .before .args .w) (c .before .before .before .before .before .before .before .before .args .m))
+    ∙ rw (flash .check-flash .ensures, c .before .first2 .ensures, length .check-length .ensures, place .first .ensures)
+    (rw (state .check-state .ensures, page .check-page .ensures) (heading-first (a .bytes) (a .w) (a .m)))
 
 pub check-heading-spec : {M : Type 1} → statement M
 check-heading-spec =

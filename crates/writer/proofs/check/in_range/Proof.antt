@@ -1,4 +1,4 @@
--- `writer::check::in_range` meets its contract. Assumes nothing.
+-- A header that is not allowed ends the test, and else each range is tested by itself (`in-range-no`, `in-range-yes`). Assumes nothing.
 use mathlib.Core.Path.{sym, _∙_}
 use native.Mathlib.Omega.{arith}
 use Rattle.writer.proofs.CheckLaws.{header-true, header-false, header-facts, in-range-no, in-range-yes}
@@ -45,14 +45,17 @@ index-requires c κs = search needs
 
 returns-2 : tie.Need-returns-2
 returns-2 c =
-    let b = c .before .before .before .before .before .before .before .before .before .before .before .before .before in
-    let w = b .before .args .w in
-    in-range-yes w (c .before .before .before .before .index .result) (c .before .before .before .before .before .before .before .least .result) (c .before .before .before .before .before .before .less2 .result) (c .before .before .before .before .before .less3 .result)
-    (header-true (w .h) (sym (b .check-header .ensures) ∙ c .before .before .before .before .before .before .before .before .before .before .before .enum-told .given .1))
-    (c .before .before .before .before .index .ensures)
-    (c .before .before .before .before .before .before .before .least .ensures ∙ rw (c .before .before .before .before .before .before .before .before .less .ensures))
-    (c .before .before .before .before .before .before .less2 .ensures)
-    (c .before .before .before .before .before .less3 .ensures)
+    let index = c .before .before .before .before in
+    let old = index .before in
+    let used = old .before in
+    let most = used .before in
+    let room = most .before in
+    let allowed = room .before .before .before in
+    let header = allowed .before .before in
+    let w = header .before .args .w in
+    in-range-yes w (index .index .result) (most .least .result) (used .less2 .result) (old .less3 .result)
+    (header-true (w .h) (sym (header .check-header .ensures) ∙ allowed .enum-told .given .1))
+    (index .index .ensures) (most .least .ensures ∙ rw (room .less .ensures)) (used .less2 .ensures) (old .less3 .ensures)
 
 pub in-range-spec : {M : Type 1} → statement M
 in-range-spec =

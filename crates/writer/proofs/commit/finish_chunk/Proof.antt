@@ -1,4 +1,5 @@
--- `writer::commit::finish_chunk` meets its contract. Assumes nothing.
+-- Each operation is made if it is due, and together they are the chunk's (`chunk-ran`); the requirement says that they lie on the flash.
+-- Assumes nothing.
 use mathlib.Core.Path.{_≡_, sym, _∙_}
 use lib.ListN.{length}
 use Rattle.types.specs.Build.{eraseValue}
@@ -32,7 +33,10 @@ erase-if-requires : tie.Need-erase-if-requires
 erase-if-requires c κs = search needs
 
 slice-aggregate-store-if : tie.Need-slice-aggregate-store-if
-slice-aggregate-store-if c = sym (four (c .before .before .before .before .before .before .before .before .before .before .before .before .before .before .before .before))
+slice-aggregate-store-if c =
+    let erased = c .before .before .before .before in
+    let sum = erased .before .before .before .before in
+    sym (four (sum .before .before .before .before .before .before .before .before))
 
 store-if-requires : tie.Need-store-if-requires
 store-if-requires c κs = search needs
@@ -48,9 +52,18 @@ same-length c = search needs
 
 returns : tie.Need-returns
 returns c =
-    let a = c .before .before .before .before .before .before .before .before .before .before .before .before .before .before .before .before .before .before .before .before .before .before .before .before .before .before .before .args in
-    chunk-ran eraseValue (a .left) (a .due) (a .w) (c .before .before .before .before .before .before .before .before .before .before .before .before .before .before .before .before .before .before .chunk-header .result) (a .flash .now) (c .before .before .before .before .before .before .before .before .before .before .before .before .before .before .before .erase-if .last .1 .0) (c .before .before .before .before .before .before .before .before .before .before .store-if .last .1 .0) (c .before .before .before .before .before .store-if2 .last .1 .0) (c .before .before .before .before .before .before .before .before .before .before .before .before .before .before .before .erase-if .result) (c .before .before .before .before .before .before .before .before .before .before .store-if .result) (c .before .before .before .before .before .store-if2 .result)
-    (c .before .before .before .before .before .before .before .before .before .before .before .before .before .before .before .before .before .before .chunk-header .ensures ∙ rw (c .before .before .before .before .before .before .before .before .before .before .before .before .before .before .before .before .before .before .before .finish .ensures)) (c .before .before .before .before .before .before .before .before .before .before .before .before .before .before .before .erase-if .ensures) (c .before .before .before .before .before .before .before .before .before .before .store-if .ensures) (c .before .before .before .before .before .store-if2 .ensures)
+    let sealed = c .before .before .before .before .before in
+    let grouped = sealed .before .before .before .before .before in
+    let erased = grouped .before .before .before .before .before in
+    let head = erased .before .before .before in
+    let sum = head .before in
+    let start = sum .before .before .before .before .before .before .before .before in
+    let a = start .args in
+    chunk-ran eraseValue (a .left) (a .due) (a .w) (head .chunk-header .result)
+    (a .flash .now) (erased .erase-if .last .1 .0) (grouped .store-if .last .1 .0) (sealed .store-if2 .last .1 .0)
+    (erased .erase-if .result) (grouped .store-if .result) (sealed .store-if2 .result)
+    (start .pre .1 .1) (head .chunk-header .ensures ∙ rw (sum .finish .ensures))
+    (erased .erase-if .ensures) (grouped .store-if .ensures) (sealed .store-if2 .ensures)
 
 pub finish-chunk-spec : {M : Type 1} → statement M
 finish-chunk-spec =

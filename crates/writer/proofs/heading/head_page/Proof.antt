@@ -1,4 +1,4 @@
--- `writer::heading::head_page` meets its contract. Assumes nothing.
+-- The header's bytes stand at the start of their room, and the erase and the store of them are run (`header-ran`). Assumes nothing.
 use mathlib.Core.Path.{refl}
 use native.Mathlib.Omega.{arith}
 use lib.ListN.{length-take}
@@ -22,8 +22,9 @@ array-share-prefix-room c = search needs
 
 slice-aggregate-store-if : tie.Need-slice-aggregate-store-if
 slice-aggregate-store-if c =
-    let a = c .before .before .before .before .before .before .before .before .before .before .args in
-    rw (c .before .before .before .before .before .before .page-header .ensures, length-take, length-room) (omega (arith, c .before .before .before .before .before .before .before .before .before .before .pre))
+    let room = c .before .before .before .before .before .before in
+    let start = room .before .before .before .before in
+    rw (room .page-header .ensures, length-take, length-room) (omega (arith, start .pre .0))
 
 store-if-requires : tie.Need-store-if-requires
 store-if-requires c κs = search needs
@@ -33,9 +34,14 @@ same-length c = search needs
 
 returns : tie.Need-returns
 returns c =
-    let a = c .before .before .before .before .before .before .before .before .before .before .before .before .before .before .before .args in
-    header-ran eraseValue (a .left) _ (a .magic) (a .w) (a .header .now) (c .before .before .before .before .before .before .before .before .before .before .before .page-header .result) (a .flash .now) (c .before .before .before .before .before .before .before .before .before .erase-if .last .1 .0) (c .before .before .before .before .store-if .last .1 .0) (c .before .before .before .before .before .before .before .before .before .erase-if .result) (c .before .before .before .before .store-if .result)
-    refl (c .before .before .before .before .before .before .before .before .before .before .before .before .before .before .before .pre) (c .before .before .before .before .before .before .before .before .before .before .before .page-header .ensures) (c .before .before .before .before .before .before .before .before .before .erase-if .ensures) (c .before .before .before .before .store-if .ensures)
+    let stored = c .before .before .before .before in
+    let erased = stored .before .before .before .before .before in
+    let room = erased .before .before in
+    let start = room .before .before .before .before in
+    let a = start .args in
+    header-ran eraseValue (a .left) _ (a .magic) (a .w) (a .header .now) (room .page-header .result)
+    (a .flash .now) (erased .erase-if .last .1 .0) (stored .store-if .last .1 .0) (erased .erase-if .result) (stored .store-if .result)
+    (start .pre .1) refl (start .pre .0) (room .page-header .ensures) (erased .erase-if .ensures) (stored .store-if .ensures)
 
 pub head-page-spec : {M : Type 1} → statement M
 head-page-spec =

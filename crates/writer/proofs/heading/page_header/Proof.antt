@@ -1,4 +1,4 @@
--- `writer::heading::page_header` meets its contract. Assumes nothing.
+-- Four parts are laid into the room, one behind the other (`room-laid`). Assumes nothing.
 use mathlib.Core.Path.{_∙_}
 use Rattle.slices.specs.Patch.{blank}
 use Rattle.writer.proofs.HeadingLaws.{room-laid}
@@ -57,10 +57,19 @@ lay-requires-4 c κs = search needs
 returns : tie.Need-returns
 unfolding blank
 returns c =
-    let a = c .before .before .before .before .before .before .before .before .before .before .before .before .before .before .before .before .before .before .before .before .before .args in
-    c .before .lay4 .ensures
-    ∙ rw (c .before .before .before .before .lay3 .ensures, c .before .before .before .before .before .before .before .before .lay2 .ensures, c .before .before .before .before .before .before .before .before .before .before .before .before .lay .ensures, c .before .before .before .before .before .before .before .before .before .before .before .before .before .before .before .put323 .ensures, c .before .before .before .before .before .before .before .before .before .before .before .before .before .before .before .before .crc32 .ensures, c .before .before .before .before .before .before .before .before .before .before .before .before .before .before .before .before .before .put322 .ensures, c .before .before .before .before .before .before .before .before .before .before .before .before .before .before .before .before .before .before .before .put32 .ensures)
-    (room-laid (a .magic) (a .page .0) (a .header .now))
+    let header = c .before in
+    let sum = header .before .before .before in
+    let page = sum .before .before .before .before in
+    let magic = page .before .before .before .before in
+    let sum-bytes = magic .before .before .before in
+    let crc = sum-bytes .before in
+    let page-bytes = crc .before in
+    let magic-bytes = page-bytes .before .before in
+    let a = magic-bytes .before .before .args in
+    header .lay4 .ensures
+    ∙ rw (sum .lay3 .ensures, page .lay2 .ensures, magic .lay .ensures)
+    (rw (sum-bytes .put323 .ensures, crc .crc32 .ensures, page-bytes .put322 .ensures, magic-bytes .put32 .ensures)
+    (room-laid (a .magic) (a .page .0) (a .header .now)))
 
 pub page-header-spec : {M : Type 1} → statement M
 page-header-spec =

@@ -1,4 +1,4 @@
--- `writer::opening::resume_at` meets its contract. Assumes nothing.
+-- The rest of the page is looked at: all erased, or not (`resume-end`, `resume-nowhere`). Assumes nothing.
 use Rattle.types.specs.Build.{eraseValue}
 use Rattle.writer.proofs.OpeningLaws.{resume-end, resume-nowhere}
 use borrow.Author.Needs.{needs}
@@ -12,10 +12,20 @@ all-erased-requires : tie.Need-all-erased-requires
 all-erased-requires c κs = search needs
 
 returns : tie.Need-returns
-returns c = let a = c .before .before .before .before .args in resume-end eraseValue (a .end) (a .page .now) (c .before .before .part-of .result .now) (c .before .all-erased .result) (c .before .before .part-of .ensures) (c .before .all-erased .ensures) (c .if1 .taken)
+returns c =
+    let tested = c .before in
+    let rest = tested .before in
+    let a = rest .before .before .args in
+    resume-end eraseValue (a .end) (a .page .now) (rest .part-of .result .now) (tested .all-erased .result)
+    (rest .part-of .ensures) (tested .all-erased .ensures) (c .if1 .taken)
 
 returns-2 : tie.Need-returns-2
-returns-2 c = let a = c .before .before .before .before .args in resume-nowhere eraseValue (a .end) (a .page .now) (c .before .before .part-of .result .now) (c .before .all-erased .result) (c .before .before .part-of .ensures) (c .before .all-erased .ensures) (c .if1 .left)
+returns-2 c =
+    let tested = c .before in
+    let rest = tested .before in
+    let a = rest .before .before .args in
+    resume-nowhere eraseValue (a .end) (a .page .now) (rest .part-of .result .now) (tested .all-erased .result)
+    (rest .part-of .ensures) (tested .all-erased .ensures) (c .if1 .left)
 
 pub resume-at-spec : {M : Type 1} → statement M
 resume-at-spec = tie.close (tie.spec part-of-requires all-erased-requires returns returns-2)

@@ -1,7 +1,10 @@
--- `writer::write::take_bytes` meets its contract. Assumes nothing.
+-- The erase, the group, the whole groups and the chunk's end are run one after the other (`taking-ran`); the requirement says that
+-- they lie on the flash. Assumes nothing.
 use mathlib.Core.Path.{_∙_}
 use native.Mathlib.Omega.{arith}
+use lib.ListN.{length}
 use Rattle.types.specs.Build.{eraseValue}
+use Rattle.writer.proofs.LiesOnLaws.{closing-lies}
 use Rattle.writer.proofs.WriteLaws.{taking-ran, grown-fits}
 use borrow.Author.Needs.{needs}
 use Rattle.writer.proofs.write.take_bytes.Statement.{statement}
@@ -38,10 +41,20 @@ store-if-requires : tie.Need-store-if-requires
 store-if-requires c κs = search needs
 
 add-store-if-2 : tie.Need-add-store-if-2
-add-store-if-2 c = omega (arith, c .before .before .before .before .before .before .before .before .before .before .before .before .before .before .before .before .before .before .before .before .before .pre, c .before .before .before .before .before .before .before .before .before .before .before .before .before .before .before .before .to-group .ensures)
+add-store-if-2 c =
+    let completed = c .before .before .before .before in
+    let erased = completed .before .before .before .before .before .before .before in
+    let first = erased .before .before .before .before .before in
+    let start = first .before .before .before .before .before in
+    omega (arith, start .pre .0, start .pre .1 .0, first .to-group .ensures)
 
 add-store-if-3 : tie.Need-add-store-if-3
-add-store-if-3 c = omega (arith, c .before .before .before .before .before .before .before .before .before .before .before .before .before .before .before .before .before .before .before .before .before .pre, c .before .before .before .before .before .before .before .before .before .before .before .before .before .before .before .before .to-group .ensures)
+add-store-if-3 c =
+    let completed = c .before .before .before .before in
+    let erased = completed .before .before .before .before .before .before .before in
+    let first = erased .before .before .before .before .before in
+    let start = first .before .before .before .before .before in
+    omega (arith, start .pre .0, start .pre .1 .0, first .to-group .ensures)
 
 part-of-requires : tie.Need-part-of-requires
 part-of-requires c κs = search needs
@@ -50,17 +63,47 @@ store-if-requires-2 : tie.Need-store-if-requires-2
 store-if-requires-2 c κs = search needs
 
 finish-chunk-requires : tie.Need-finish-chunk-requires
-finish-chunk-requires c κs = let b = c .before .before .before .before .before .before .before .before .before .before .before .before .before .before .before .before .before .before .before .before .before .before .before .before .before .before .before in grown-fits (b .args .w) (b .args .next) (b .args .bytes .now) (b .pre .1 .1) (b .pre .0) (b .pre .1 .0)
+finish-chunk-requires c κs =
+    let whole = c .before .before .before .before in
+    let completed = whole .before .before .before .before .before .before in
+    let erased = completed .before .before .before .before .before .before .before in
+    let group = erased .before .before .before in
+    let start = group .before .before .before .before .before .before .before in
+    let a = start .args in
+    let fits = grown-fits (a .w) (a .next) (a .bytes .now) (start .pre .1 .1 .0) (start .pre .0) (start .pre .1 .0) in
+    let long = whole .store-if2 .kept .1 .0 ∙ completed .store-if .kept .1 .0 ∙ erased .erase-if .kept .1 .0 in
+    let lie = closing-lies eraseValue (length (whole .store-if2 .last .1 .0)) (length (a .flash .now)) (a .w) (a .next) (a .bytes .now)
+    (start .pre .1 .1 .1) (start .pre .1 .1 .0) long in
+    (fits .0, (fits .1, lie))
 
 same-length : tie.Need-same-length
-same-length c = c .before .before .before .before .before .before .finish-chunk .kept .1 .1 .0 ∙ c .before .before .before .before .before .before .before .before .before .before .before .store-if2 .kept .1 .0 ∙ c .before .before .before .before .before .before .before .before .before .before .before .before .before .before .before .before .before .store-if .kept .1 .0 ∙ c .before .before .before .before .before .before .before .before .before .before .before .before .before .before .before .before .before .before .before .before .before .before .before .before .erase-if .kept .1 .0
+same-length c =
+    let finished = c .before .before .before .before .before .before in
+    let whole = finished .before .before .before .before .before in
+    let completed = whole .before .before .before .before .before .before in
+    let erased = completed .before .before .before .before .before .before .before in
+    finished .finish-chunk .kept .1 .1 .0 ∙ whole .store-if2 .kept .1 .0 ∙ completed .store-if .kept .1 .0 ∙ erased .erase-if .kept .1 .0
 
 returns : tie.Need-returns
 returns c =
-    let a = c .before .before .before .before .before .before .before .before .before .before .before .before .before .before .before .before .before .before .before .before .before .before .before .before .before .before .before .before .before .before .before .before .before .before .args in
-    taking-ran eraseValue (a .left) (c .before .before .before .before .before .before .before .before .before .before .before .before .before .before .before .before .before .before .before .before .before .before .before .before .before .before .before .before .before .before .lacking .result) (c .before .before .before .before .before .before .before .before .before .before .before .before .before .before .before .before .before .before .before .before .before .before .before .before .before .before .before .before .before .to-group .result) (c .before .before .before .before .before .before .before .before .before .before .before .before .before .before .before .before .before .before .before .before .before .before .before .before .before .before .before .before .to-whole .result) (a .w) (a .next) (a .bytes .now) (c .before .before .before .before .before .before .before .before .before .before .before .before .before .before .before .before .before .before .before .before .before .before .before .before .before .before .before .group-of .result) (c .before .before .before .before .before .before .before .before .before .before .before .before .part-of .result .now) (a .flash .now) (c .before .before .before .before .before .before .before .before .before .before .before .before .before .before .before .before .before .before .before .before .before .before .before .before .erase-if .last .1 .0) (c .before .before .before .before .before .before .before .before .before .before .before .before .before .before .before .before .before .store-if .last .1 .0) (c .before .before .before .before .before .before .before .before .before .before .before .store-if2 .last .1 .0) (c .before .before .before .before .before .before .finish-chunk .last .1 .1 .0) (c .before .before .before .before .before .before .before .before .before .before .before .before .before .before .before .before .before .before .before .before .before .before .before .before .erase-if .result) (c .before .before .before .before .before .before .before .before .before .before .before .before .before .before .before .before .before .store-if .result) (c .before .before .before .before .before .before .before .before .before .before .before .store-if2 .result) (c .before .before .before .before .before .before .finish-chunk .result)
-    (c .before .before .before .before .before .before .before .before .before .before .before .before .before .before .before .before .before .before .before .before .before .before .before .before .before .before .before .before .before .before .lacking .ensures) (c .before .before .before .before .before .before .before .before .before .before .before .before .before .before .before .before .before .before .before .before .before .before .before .before .before .before .before .before .before .to-group .ensures) (c .before .before .before .before .before .before .before .before .before .before .before .before .before .before .before .before .before .before .before .before .before .before .before .before .before .before .before .before .to-whole .ensures) (c .before .before .before .before .before .before .before .before .before .before .before .before .before .before .before .before .before .before .before .before .before .before .before .before .before .before .before .group-of .ensures) (c .before .before .before .before .before .before .before .before .before .before .before .before .part-of .ensures) (c .before .before .before .before .before .before .before .before .before .before .before .before .before .before .before .before .before .before .before .before .before .before .before .before .before .before .before .before .before .before .before .before .before .before .pre .1 .1)
-    (c .before .before .before .before .before .before .before .before .before .before .before .before .before .before .before .before .before .before .before .before .before .before .before .before .erase-if .ensures) (c .before .before .before .before .before .before .before .before .before .before .before .before .before .before .before .before .before .store-if .ensures) (c .before .before .before .before .before .before .before .before .before .before .before .store-if2 .ensures) (c .before .before .before .before .before .before .finish-chunk .ensures)
+    let finished = c .before .before .before .before .before .before in
+    let whole = finished .before .before .before .before .before in
+    let part = whole .before in
+    let completed = part .before .before .before .before .before in
+    let erased = completed .before .before .before .before .before .before .before in
+    let group = erased .before .before .before in
+    let many = group .before in
+    let first = many .before in
+    let lack = first .before in
+    let start = lack .before .before .before .before in
+    let a = start .args in
+    taking-ran eraseValue (a .left) (lack .lacking .result) (first .to-group .result) (many .to-whole .result)
+    (a .w) (a .next) (a .bytes .now) (group .group-of .result) (part .part-of .result .now)
+    (a .flash .now) (erased .erase-if .last .1 .0) (completed .store-if .last .1 .0) (whole .store-if2 .last .1 .0) (finished .finish-chunk .last .1 .1 .0)
+    (erased .erase-if .result) (completed .store-if .result) (whole .store-if2 .result) (finished .finish-chunk .result)
+    (start .pre .1 .1 .1) (lack .lacking .ensures) (first .to-group .ensures) (many .to-whole .ensures)
+    (group .group-of .ensures) (part .part-of .ensures) (start .pre .1 .1 .0)
+    (erased .erase-if .ensures) (completed .store-if .ensures) (whole .store-if2 .ensures) (finished .finish-chunk .ensures)
 
 pub take-bytes-spec : {M : Type 1} → statement M
 take-bytes-spec =

@@ -1,12 +1,14 @@
--- `writer::page_writer::PageWriter::commit` meets its contract. Assumes nothing.
+-- A refusal of the checks is handed back; with nothing pending there is nothing to do; else the chunk's operations are run. That they
+-- lie on the flash follows from the checks (`commit-lies`). Assumes nothing.
 use mathlib.Core.Path.{_≡_, sym, _∙_}
 use lib.ListN.{length}
 use Rattle.types.specs.Build.{eraseValue}
 use Rattle.types.specs.declared.refusal.Verdict.the-variants.{Fine}
 use Rattle.writer.specs.Duties.{commitDuty}
 use Rattle.writer.specs.Verdicts.{writerVerdict}
-use Rattle.writer.proofs.CheckLaws.{writer-passed, Sound, sound, small}
+use Rattle.writer.proofs.CheckLaws.{Passed, writer-passed, Sound, sound, small}
 use Rattle.writer.proofs.CommitLaws.{commit-none, commit-some}
+use Rattle.writer.proofs.LiesOnLaws.{commit-lies}
 use Rattle.writer.proofs.OutcomeLaws.{ends-refused}
 use borrow.Author.Needs.{needs}
 use Rattle.writer.proofs.page_writer.PageWriter.commit.Statement.{statement}
@@ -20,29 +22,51 @@ enum-known-no c = search needs
 
 returns : tie.Need-returns
 returns c =
-    let a = c .before .before .before .before .before .args in
+    let refused = c .before in
+    let checked = refused .before .before in
+    let a = checked .before .before .args in
     ends-refused (commitDuty eraseValue (a .flash .now) (a .self)) (a .self) (a .left) (a .flash .now)
-    (c .before .no .given .0 .0) (sym (c .before .before .before .check-writer .ensures) ∙ c .before .no .given .1)
+    (refused .no .given .0 .0) (sym (checked .check-writer .ensures) ∙ refused .no .given .1)
 
 enum-told : tie.Need-enum-told
 enum-told c = search needs
 
-fine : (c : tie.After-enum-told) → writerVerdict (length (c .before .before .before .before .args .flash .now)) (c .before .before .before .before .args .self) ≡ Fine
+-- the checks have passed
+abbrev start : tie.After-enum-told → tie.Start
+start c = c .before .before .before .before
+
+four : (c : tie.Start) → length (c .args .self .buf) ≡ 4
+four c = search needs
+
+fine : (c : tie.After-enum-told) → writerVerdict (length (start c .args .flash .now)) (start c .args .self) ≡ Fine
 fine c = sym (c .before .before .check-writer .ensures) ∙ c .enum-told .given .1
 
-known : (c : tie.After-enum-told) → Sound (c .before .before .before .before .args .self)
-known c = sound (c .before .before .before .before .args .self) (writer-passed _ _ (fine c) .state)
+passed : (c : tie.After-enum-told) → Passed (length (start c .args .flash .now)) (start c .args .self)
+passed c = writer-passed (length (start c .args .flash .now)) (start c .args .self) (fine c)
+
+known : (c : tie.After-enum-told) → Sound (start c .args .self)
+known c = sound (start c .args .self) (passed c .state)
 
 returns-2 : tie.Need-returns-2
 returns-2 c =
-    let a = c .before .before .before .before .before .before .args in
-    commit-none eraseValue (a .self) (a .left) (a .flash .now) (fine (c .before .before)) (c .if1 .taken)
+    let checked = c .before .before in
+    let a = start checked .args in
+    commit-none eraseValue (a .self) (a .left) (a .flash .now) (fine checked) (c .if1 .taken)
 
 finish-chunk-requires : tie.Need-finish-chunk-requires
-finish-chunk-requires c κs = let k = known (c .before .before .before) in (k .within, small _ k)
+finish-chunk-requires c κs =
+    let some = c .before in
+    let checked = some .before .before in
+    let a = start checked .args in
+    let k = known checked in
+    let lie = commit-lies eraseValue (length (a .flash .now)) (a .self) (passed checked) (four (start checked)) (some .if1 .left) in
+    (k .within, (small _ k, lie))
 
 next-chunk-requires : tie.Need-next-chunk-requires
-next-chunk-requires c κs = let k = known (c .before .before .before .before .before .before) in (k .within, small _ k)
+next-chunk-requires c κs =
+    let some = c .before .before .before .before in
+    let k = known (some .before .before) in
+    (k .within, small _ k)
 
 came-requires : tie.Need-came-requires
 came-requires c κs = search needs
@@ -52,10 +76,14 @@ same-length c = search needs
 
 returns-3 : tie.Need-returns-3
 returns-3 c =
-    let a = c .before .before .before .before .before .before .before .before .before .before .before .before .args in
-    commit-some eraseValue (a .self) (a .left) (a .flash .now) (fine (c .before .before .before .before .before .before .before .before))
-    (c .before .before .before .before .finish-chunk .result) (c .before .before .before .before .finish-chunk .last .1 .1 .0) (c .before .next-chunk .result) (c .came .result) (c .before .before .before .before .before .before .if1 .left)
-    (c .before .before .before .before .finish-chunk .ensures) (c .before .next-chunk .ensures) (c .came .ensures)
+    let moved = c .before in
+    let finished = moved .before .before .before in
+    let some = finished .before .before in
+    let checked = some .before .before in
+    let a = start checked .args in
+    commit-some eraseValue (a .self) (a .left) (a .flash .now) (fine checked)
+    (finished .finish-chunk .result) (finished .finish-chunk .last .1 .1 .0) (moved .next-chunk .result) (c .came .result)
+    (some .if1 .left) (finished .finish-chunk .ensures) (moved .next-chunk .ensures) (c .came .ensures)
 
 pub commit-spec : {M : Type 1} → statement M
 commit-spec =

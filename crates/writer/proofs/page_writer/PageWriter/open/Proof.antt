@@ -1,4 +1,4 @@
--- `writer::page_writer::PageWriter::open` meets its contract. Assumes nothing.
+-- A refusal of the checks is handed back with the writer as it was; else the writer is fresh. Assumes nothing.
 use mathlib.Core.Path.{_≡_, sym, _∙_}
 use native.Mathlib.Omega.{arith}
 use lib.ListN.{length}
@@ -18,25 +18,35 @@ enum-known-no c = search needs
 
 returns : tie.Need-returns
 returns c =
-    let a = c .before .before .before .before .before .args in
-    open-refused (a .flash .now) (a .page) (a .h) (a .self) (a .left) (c .before .no .given .0 .0) (sym (c .before .before .before .check-open .ensures) ∙ c .before .no .given .1)
+    let refused = c .before in
+    let checked = refused .before .before in
+    let a = checked .before .before .args in
+    open-refused (a .flash .now) (a .page) (a .h) (a .self) (a .left) (refused .no .given .0 .0)
+    (sym (checked .check-open .ensures) ∙ refused .no .given .1)
 
 enum-told : tie.Need-enum-told
 enum-told c = search needs
 
-fine : (c : tie.After-enum-told) → openVerdict (length (c .before .before .before .before .args .flash .now)) (c .before .before .before .before .args .page .0) (c .before .before .before .before .args .h) ≡ Fine
+-- the checks have passed
+abbrev start : tie.After-enum-told → tie.Start
+start c = c .before .before .before .before
+
+fine : (c : tie.After-enum-told) → openVerdict (length (start c .args .flash .now)) (start c .args .page .0) (start c .args .h) ≡ Fine
 fine c = sym (c .before .before .check-open .ensures) ∙ c .enum-told .given .1
 
 add-fresh : tie.Need-add-fresh
-add-fresh c = let k = c .before .before .before .before .args in omega (arith, header-facts (k .h) (open-passed (length (k .flash .now)) (k .page .0) (k .h) (fine c) .1 .0))
+add-fresh c =
+    let a = start c .args in
+    omega (arith, header-facts (a .h) (open-passed (length (a .flash .now)) (a .page .0) (a .h) (fine c) .1 .0))
 
 fresh-requires : tie.Need-fresh-requires
 fresh-requires c κs = search needs
 
 returns-2 : tie.Need-returns-2
 returns-2 c =
-    let a = c .before .before .before .before .before .args in
-    open-fine (a .flash .now) (a .page) (a .h) (a .self) (a .left) (c .fresh .result) (fine (c .before)) (c .fresh .ensures)
+    let checked = c .before in
+    let a = start checked .args in
+    open-fine (a .flash .now) (a .page) (a .h) (a .self) (a .left) (c .fresh .result) (fine checked) (c .fresh .ensures)
 
 pub open-spec : {M : Type 1} → statement M
 open-spec =

@@ -1,4 +1,5 @@
--- `writer::page_writer::PageWriter::open_append` meets its contract. Assumes nothing.
+-- A refusal of the checks is handed back with the writer as it was, and so is a walk that meets a bad chunk; else the writer is fresh,
+-- behind the last chunk. Assumes nothing.
 use mathlib.Core.Path.{_≡_, sym, _∙_}
 use native.Mathlib.Omega.{arith}
 use lib.ListN.{length}
@@ -19,8 +20,11 @@ enum-known-no c = search needs
 
 returns : tie.Need-returns
 returns c =
-    let a = c .before .before .before .before .before .args in
-    append-refused (a .flash .now) (a .page) (a .h) (a .self) (a .left) eraseValue (c .before .no .given .0 .0) (sym (c .before .before .before .check-open .ensures) ∙ c .before .no .given .1)
+    let refused = c .before in
+    let checked = refused .before .before in
+    let a = checked .before .before .args in
+    append-refused (a .flash .now) (a .page) (a .h) (a .self) (a .left) eraseValue (refused .no .given .0 .0)
+    (sym (checked .check-open .ensures) ∙ refused .no .given .1)
 
 enum-told : tie.Need-enum-told
 enum-told c = search needs
@@ -28,11 +32,18 @@ enum-told c = search needs
 page-of-requires : tie.Need-page-of-requires
 page-of-requires c κs = search needs
 
-fine : (c : tie.After-enum-told) → openVerdict (length (c .before .before .before .before .args .flash .now)) (c .before .before .before .before .args .page .0) (c .before .before .before .before .args .h) ≡ Fine
+-- the checks have passed
+abbrev start : tie.After-enum-told → tie.Start
+start c = c .before .before .before .before
+
+fine : (c : tie.After-enum-told) → openVerdict (length (start c .args .flash .now)) (start c .args .page .0) (start c .args .h) ≡ Fine
 fine c = sym (c .before .before .check-open .ensures) ∙ c .enum-told .given .1
 
 add-walk-end : tie.Need-add-walk-end
-add-walk-end c = let k = c .before .before .before .before .before .args in omega (arith, header-facts (k .h) (open-passed (length (k .flash .now)) (k .page .0) (k .h) (fine (c .before)) .1 .0))
+add-walk-end c =
+    let checked = c .before in
+    let a = start checked .args in
+    omega (arith, header-facts (a .h) (open-passed (length (a .flash .now)) (a .page .0) (a .h) (fine checked) .1 .0))
 
 walk-end-requires : tie.Need-walk-end-requires
 walk-end-requires c κs = search needs
@@ -45,8 +56,12 @@ enum-told-2 c = search needs
 
 returns-2 : tie.Need-returns-2
 returns-2 c =
-    let a = c .before .before .before .before .before .before .before .before .args in
-    append-corrupted (a .flash .now) (a .page) (a .h) (a .self) (a .left) eraseValue (c .before .before .before .page-of .result .now) (fine (c .before .before .before .before)) (c .before .before .before .page-of .ensures) (sym (c .before .before .walk-end .ensures) ∙ c .enum-told2 .given .1)
+    let walked = c .before .before in
+    let page = walked .before in
+    let checked = page .before in
+    let a = start checked .args in
+    append-corrupted (a .flash .now) (a .page) (a .h) (a .self) (a .left) eraseValue (page .page-of .result .now)
+    (fine checked) (page .page-of .ensures) (sym (walked .walk-end .ensures) ∙ c .enum-told2 .given .1)
 
 resume-at-requires : tie.Need-resume-at-requires
 resume-at-requires c κs = search needs
@@ -56,9 +71,15 @@ fresh-requires c κs = search needs
 
 returns-3 : tie.Need-returns-3
 returns-3 c =
-    let a = c .before .before .before .before .before .before .before .before .before .before .before .args in
-    append-fine (a .flash .now) (a .page) (a .h) (a .self) (a .left) eraseValue (c .before .before .before .before .before .before .page-of .result .now) (c .before .before .before .end .given .0 .0) (c .before .resume-at .result) (c .fresh .result) (fine (c .before .before .before .before .before .before .before)) (c .before .before .before .before .before .before .page-of .ensures)
-    (sym (c .before .before .before .before .before .walk-end .ensures) ∙ c .before .before .before .end .given .1) (c .before .resume-at .ensures) (c .fresh .ensures)
+    let resumed = c .before in
+    let end = resumed .before .before in
+    let walked = end .before .before in
+    let page = walked .before in
+    let checked = page .before in
+    let a = start checked .args in
+    append-fine (a .flash .now) (a .page) (a .h) (a .self) (a .left) eraseValue (page .page-of .result .now) (end .end .given .0 .0)
+    (resumed .resume-at .result) (c .fresh .result) (fine checked) (page .page-of .ensures)
+    (sym (walked .walk-end .ensures) ∙ end .end .given .1) (resumed .resume-at .ensures) (c .fresh .ensures)
 
 pub open-append-spec : {M : Type 1} → statement M
 open-append-spec =

@@ -1,4 +1,5 @@
--- `writer::page_writer::PageWriter::write` meets its contract. Assumes nothing.
+-- A refusal of the checks is handed back; where no byte is taken there is nothing to do; else the operations that take them are run.
+-- That they lie on the flash follows from the checks (`write-lies`). Assumes nothing.
 use mathlib.Core.Path.{_≡_, sym, _∙_}
 use native.Mathlib.Omega.{arith}
 use Prim.Native.Nat.{_+_, _≤_}
@@ -6,7 +7,8 @@ use lib.ListN.{length, take, length-take}
 use Rattle.types.specs.Build.{maxChunkSize, eraseValue}
 use Rattle.types.specs.declared.refusal.Verdict.the-variants.{Fine}
 use Rattle.writer.specs.Verdicts.{writerVerdict}
-use Rattle.writer.proofs.CheckLaws.{writer-passed, Sound, sound, small, total-small}
+use Rattle.writer.proofs.CheckLaws.{Passed, writer-passed, Sound, sound, small, total-small}
+use Rattle.writer.proofs.LiesOnLaws.{write-lies}
 use Rattle.writer.proofs.WriteLaws.{taken-fits, grown-fits, write-refused, write-none, write-some}
 use borrow.Author.Needs.{needs}
 use Rattle.writer.proofs.page_writer.PageWriter.write.Statement.{statement}
@@ -20,42 +22,73 @@ enum-known-no c = search needs
 
 returns : tie.Need-returns
 returns c =
-    let a = c .before .before .before .before .before .before .args in
+    let refused = c .before in
+    let checked = refused .before .before in
+    let a = checked .before .before .before .args in
     write-refused eraseValue (a .self) (a .bytes .now) (a .left) (a .flash .now)
-    (c .before .no .given .0 .0) (sym (c .before .before .before .check-writer .ensures) ∙ c .before .no .given .1)
+    (refused .no .given .0 .0) (sym (checked .check-writer .ensures) ∙ refused .no .given .1)
 
 enum-told : tie.Need-enum-told
 enum-told c = search needs
 
-fine : (c : tie.After-enum-told) → writerVerdict (length (c .before .before .before .before .before .args .flash .now)) (c .before .before .before .before .before .args .self) ≡ Fine
+-- the checks have passed
+abbrev start : tie.After-enum-told → tie.Start
+start c = c .before .before .before .before .before
+
+four : (c : tie.Start) → length (c .args .self .buf) ≡ 4
+four c = search needs
+
+fine : (c : tie.After-enum-told) → writerVerdict (length (start c .args .flash .now)) (start c .args .self) ≡ Fine
 fine c = sym (c .before .before .check-writer .ensures) ∙ c .enum-told .given .1
 
-known : (c : tie.After-enum-told) → Sound (c .before .before .before .before .before .args .self)
-known c = sound (c .before .before .before .before .before .args .self) (writer-passed _ _ (fine c) .state)
+passed : (c : tie.After-enum-told) → Passed (length (start c .args .flash .now)) (start c .args .self)
+passed c = writer-passed (length (start c .args .flash .now)) (start c .args .self) (fine c)
+
+known : (c : tie.After-enum-told) → Sound (start c .args .self)
+known c = sound (start c .args .self) (passed c .state)
 
 takes-requires : tie.Need-takes-requires
 takes-requires c κs = let k = known c in (k .within, small _ k)
 
-fits : (c : tie.After-takes) → c .before .before .before .before .before .before .args .self .pending + length (take (c .takes .result) (c .before .before .before .before .before .before .args .bytes .now)) ≤ maxChunkSize
-fits c = taken-fits (c .before .before .before .before .before .before .args .self) (c .before .before .before .before .before .before .args .bytes .now) (c .takes .result) (c .takes .ensures) (small _ (known (c .before)))
+-- so many bytes are taken that the chunk is not too long
+fits : (c : tie.After-takes)
+    → start (c .before) .args .self .pending + length (take (c .takes .result) (start (c .before) .args .bytes .now)) ≤ maxChunkSize
+fits c =
+    let a = start (c .before) .args in
+    taken-fits (a .self) (a .bytes .now) (c .takes .result) (c .takes .ensures) (small _ (known (c .before)))
 
 returns-2 : tie.Need-returns-2
 returns-2 c =
-    let a = c .before .before .before .before .before .before .before .args in
+    let counted = c .before in
+    let checked = counted .before in
+    let a = start checked .args in
     write-none eraseValue (a .self) (a .bytes .now) (a .left) (a .flash .now)
-    (c .before .takes .result) (fine (c .before .before)) (c .before .takes .ensures) (c .if1 .taken)
+    (counted .takes .result) (fine checked) (counted .takes .ensures) (c .if1 .taken)
 
 slice-aggregate-part : tie.Need-slice-aggregate-part
 slice-aggregate-part c = simp length-take (omega (arith, c .before .before .takes .ensures))
 
 grown-requires : tie.Need-grown-requires
-grown-requires c κs = let k = known (c .before .before .before) in (total-small _ k, fits (c .before .before))
+grown-requires c κs =
+    let counted = c .before .before in
+    (total-small _ (known (counted .before)), fits counted)
 
 take-bytes-requires : tie.Need-take-bytes-requires
-take-bytes-requires c κs = let k = known (c .before .before .before .before .before) in (k .within, (fits (c .before .before .before .before), c .before .grown .ensures))
+take-bytes-requires c κs =
+    let grown = c .before in
+    let some = grown .before .before in
+    let counted = some .before in
+    let checked = counted .before in
+    let a = start checked .args in
+    let lie = write-lies eraseValue (length (a .flash .now)) (counted .takes .result) (a .self) (a .bytes .now) (passed checked)
+    (four (start checked)) (counted .takes .ensures) (some .if1 .left) in
+    (known checked .within, (fits counted, (grown .grown .ensures, lie)))
 
 closed-requires : tie.Need-closed-requires
-closed-requires c κs = grown-fits _ _ _ (c .before .before .before .before .grown .ensures) (known (c .before .before .before .before .before .before .before .before) .within) (fits (c .before .before .before .before .before .before .before))
+closed-requires c κs =
+    let grown = c .before .before .before .before in
+    let counted = grown .before .before .before in
+    grown-fits _ _ _ (grown .grown .ensures) (known (counted .before) .within) (fits counted)
 
 came-requires : tie.Need-came-requires
 came-requires c κs = search needs
@@ -68,10 +101,18 @@ same-length c = search needs
 
 returns-3 : tie.Need-returns-3
 returns-3 c =
-    let a = c .before .before .before .before .before .before .before .before .before .before .before .before .before .before .before .before .args in
+    let ended = c .before in
+    let closed = ended .before in
+    let run = closed .before .before .before in
+    let grown = run .before .before in
+    let some = grown .before .before in
+    let counted = some .before in
+    let checked = counted .before in
+    let a = start checked .args in
     write-some eraseValue (a .self) (a .bytes .now) (a .left) (a .flash .now)
-    (c .before .before .before .before .before .before .before .before .before .before .takes .result) (c .before .before .before .before .before .take-bytes .result) (c .before .before .before .before .before .take-bytes .last .1 .1 .0) (c .before .before .before .before .before .before .before .grown .result) (c .before .before .closed .result) (c .before .came .result) (c .wrote .result) (fine (c .before .before .before .before .before .before .before .before .before .before .before)) (c .before .before .before .before .before .before .before .before .before .before .takes .ensures) (c .before .before .before .before .before .before .before .before .before .if1 .left)
-    (c .before .before .before .before .before .before .before .grown .ensures) (c .before .before .before .before .before .take-bytes .ensures) (c .before .before .closed .ensures) (c .before .came .ensures) (c .wrote .ensures)
+    (counted .takes .result) (run .take-bytes .result) (run .take-bytes .last .1 .1 .0) (grown .grown .result) (closed .closed .result)
+    (ended .came .result) (c .wrote .result) (fine checked) (counted .takes .ensures) (some .if1 .left)
+    (grown .grown .ensures) (run .take-bytes .ensures) (closed .closed .ensures) (ended .came .ensures) (c .wrote .ensures)
 
 pub write-spec : {M : Type 1} → statement M
 write-spec =

@@ -1,4 +1,5 @@
--- `writer::page_writer::PageWriter::write_header` meets its contract. Assumes nothing.
+-- A refusal of the checks is handed back; else the erase and the store are run. That they lie on the flash follows from the checks
+-- (`header-lies`). Assumes nothing.
 use mathlib.Core.Path.{_≡_, sym, _∙_}
 use lib.ListN.{length}
 use Rattle.types.specs.Build.{eraseValue}
@@ -6,6 +7,7 @@ use Rattle.types.specs.declared.refusal.Verdict.the-variants.{Fine}
 use Rattle.writer.specs.Duties.{headingDuty}
 use Rattle.writer.specs.Verdicts.{headingVerdict}
 use Rattle.writer.proofs.CheckLaws.{heading-passed, header-facts}
+use Rattle.writer.proofs.LiesOnLaws.{header-lies}
 use Rattle.writer.proofs.OutcomeLaws.{ends-refused, ends-ran}
 use borrow.Author.Needs.{needs}
 use Rattle.writer.proofs.page_writer.PageWriter.write_header.Statement.{statement}
@@ -19,18 +21,30 @@ enum-known-no c = search needs
 
 returns : tie.Need-returns
 returns c =
-    let a = c .before .before .before .before .before .before .args in
+    let refused = c .before in
+    let checked = refused .before .before in
+    let a = checked .before .before .before .args in
     ends-refused (headingDuty eraseValue (a .flash .now) (a .self) (a .magic) (a .header .now)) (a .self) (a .left) (a .flash .now)
-    (c .before .no .given .0 .0) (sym (c .before .before .before .check-heading .ensures) ∙ c .before .no .given .1)
+    (refused .no .given .0 .0) (sym (checked .check-heading .ensures) ∙ refused .no .given .1)
 
 enum-told : tie.Need-enum-told
 enum-told c = search needs
 
-fine : (c : tie.After-enum-told) → headingVerdict (length (c .before .before .before .before .before .args .flash .now)) (c .before .before .before .before .before .args .self) (length (c .before .before .before .before .before .args .header .now)) ≡ Fine
+-- the checks have passed
+abbrev start : tie.After-enum-told → tie.Start
+start c = c .before .before .before .before .before
+
+fine : (c : tie.After-enum-told)
+    → headingVerdict (length (start c .args .flash .now)) (start c .args .self) (length (start c .args .header .now)) ≡ Fine
 fine c = sym (c .before .before .check-heading .ensures) ∙ c .enum-told .given .1
 
 head-page-requires : tie.Need-head-page-requires
-head-page-requires c κs = header-facts _ (heading-passed _ _ _ (fine (c .before)) .1 .1) .1
+head-page-requires c κs =
+    let checked = c .before in
+    let a = start checked .args in
+    let passed = heading-passed _ _ _ (fine checked) in
+    let short = header-facts _ (passed .1 .1) .1 in
+    (short, header-lies eraseValue (length (a .flash .now)) (a .self) (a .magic) (a .header .now) (passed .0) short)
 
 came-requires : tie.Need-came-requires
 came-requires c κs = search needs
@@ -40,8 +54,12 @@ same-length c = search needs
 
 returns-2 : tie.Need-returns-2
 returns-2 c =
-    let a = c .before .before .before .before .before .before .before .before .before .before .args in
-    let q = ends-ran (headingDuty eraseValue (a .flash .now) (a .self) (a .magic) (a .header .now)) (a .self) (a .left) (a .flash .now) (c .before .before .before .head-page .result) (c .before .before .before .head-page .last .1 .0) (fine (c .before .before .before .before .before)) (c .before .before .before .head-page .ensures) in
+    let headed = c .before .before .before in
+    let checked = headed .before .before in
+    let a = start checked .args in
+    let duty = headingDuty eraseValue (a .flash .now) (a .self) (a .magic) (a .header .now) in
+    let q = ends-ran duty (a .self) (a .left) (a .flash .now) (headed .head-page .result) (headed .head-page .last .1 .0) (fine checked)
+    (headed .head-page .ensures) in
     (c .came .ensures ∙ q .0, q .1)
 
 pub write-header-spec : {M : Type 1} → statement M
