@@ -145,7 +145,8 @@ module _ (id : PageID) (h total o : ℕ) (buf payload bytes page₀ : List ℕ) 
       let all : (payload ++ take g bytes) ++ drop g bytes ≡ payload ++ bytes = append-assoc payload (take g bytes) (drop g bytes) ∙ ap (λ (l : List ℕ). payload ++ l) (take-append-drop g bytes) in
       let r : rest (payload ++ bytes) ≡ rest (drop g bytes) = ap rest (sym all) ∙ rest-even (payload ++ take g bytes) (drop g bytes) (rw lf even) in
       let k : length (payload ++ bytes) % 4 ≡ length (drop g bytes) % 4 = ap (λ (m : ℕ). m % 4) (length-append payload bytes) ∙ count (length payload) g n even has ∙ ap (λ (m : ℕ). m % 4) (sym ld) in
-      let d : drop (toGroup w n + toWhole w n) bytes ≡ rest (drop g bytes) = ap (λ (m : ℕ). drop (m + (n - m) / 4 * 4) bytes) e ∙ sym (drop-drop ((n - g) / 4 * 4) g bytes) ∙ ap (λ (m : ℕ). drop m (drop g bytes)) (groups (n - g) ∙ ap (λ (m : ℕ). m - m % 4) (sym ld)) in
+      let d : drop (toGroup w n + toWhole w n) bytes ≡ rest (drop g bytes) = ap (λ (m : ℕ). drop (m + (n - m) / 4 * 4) bytes) e ∙ sym (drop-drop ((n - g) / 4 * 4) g bytes)
+      ∙ ap (λ (m : ℕ). drop m (drop g bytes)) (groups (n - g) ∙ ap (λ (m : ℕ). m - m % 4) (sym ld)) in
       ap₂ (λ (m : ℕ) (l : List ℕ). take m (over l (groupOf w bytes))) k d
       ∙ over-take (length (drop g bytes) % 4) (rest (drop g bytes)) (groupOf w bytes) (length-rest (drop g bytes)) (rw length-group (omega arith))
       ∙ sym r
@@ -197,7 +198,8 @@ piece-added page₀ o w payload page bytes a fits =
       h = a .h;
       total = a .total + length bytes;
       buf = bufferOf v bytes;
-      held = ap (λ (x : PageWriter). grown x bytes) (a .held) ∙ more (a .id) (a .h) (a .total + length bytes) (bufferOf v bytes) (sym (crc-append preset payload bytes)) (sym (length-append payload bytes));
+      held = ap (λ (x : PageWriter). grown x bytes) (a .held)
+          ∙ more (a .id) (a .h) (a .total + length bytes) (bufferOf v bytes) (sym (crc-append preset payload bytes)) (sym (length-append payload bytes));
       four = length-buffer (a .id) (a .h) (a .total) o (a .buf) payload bytes page₀ (a .four) (a .top) fits;
       top = piece-held (a .id) (a .h) (a .total) o (a .buf) payload bytes page₀ (a .four) (a .top) fits;
       stored =
@@ -206,5 +208,6 @@ piece-added page₀ o w payload page bytes a fits =
     }
   where
     more : (id : PageID) (h total : ℕ) (buf : List ℕ) {c d p q : ℕ} → c ≡ d → p ≡ q
-        → _≡_ {A = PageWriter} (record { page = id; h = h; armed = false; crc = c; buf = buf; total = total; offset = o; pending = p }) (record { page = id; h = h; armed = false; crc = d; buf = buf; total = total; offset = o; pending = q })
+        → _≡_ {A = PageWriter} (record { page = id; h = h; armed = false; crc = c; buf = buf; total = total; offset = o; pending = p })
+        (record { page = id; h = h; armed = false; crc = d; buf = buf; total = total; offset = o; pending = q })
     more id h total buf e f = ap₂ (λ (x y : ℕ). record { page = id; h = h; armed = false; crc = x; buf = buf; total = total; offset = o; pending = y }) e f

@@ -123,7 +123,8 @@ module _ (page₀ : List ℕ) (o e : ℕ) (even : o % 4 ≡ 0) where
       let la : length ((payload ++ t) ++ rest) ≡ length (payload ++ t) + length rest = length-append (payload ++ t) rest in
       stored-same _ _ page _ _ (ap (λ (x : List ℕ). payload ++ x) (n .0) ∙ sym (append-assoc payload t rest)) (n .1)
       (stored-behind page₀ o ((payload ++ t) ++ rest) page (payloadOps w t) (additionOps e (grown w t) pieces) (piece-behind o w t at)
-      (addition-stored pieces (grown w t) (payload ++ t) (applied 0 (payloadOps w t) page) next more short (let big : 0 < length t = positive (takes (length bytes) w) (length t) took l in omega arith))))
+      (addition-stored pieces (grown w t) (payload ++ t) (applied 0 (payloadOps w t) page) next more short
+      (let big : 0 < length t = positive (takes (length bytes) w) (length t) took l in omega arith))))
       (decided (fills w bytes)))
       (eq-or-ne (takes (length bytes) w) 0)
 

@@ -13,16 +13,22 @@ use Rattle.types.specs.declared.refusal.Refusal.the-variants.{Cut}
 use Rattle.types.proofs.TestLaws.{le-or-lt, decided}
 use Rattle.types.specs.declared.page_id.PageID.{PageID}
 use Rattle.types.specs.declared.refusal.Verdict.{Verdict}
+use Rattle.types.specs.declared.refusal.Verdict.the-variants as verdict
 use Rattle.types.specs.declared.refusal.Verdict.the-variants.{Fine}
-use Rattle.flash.specs.Geometry.{flashFine, hasPage, pageStart}
+use Rattle.flash.specs.Geometry.{flashFine, hasPage, pageStart, pageOf}
 use Rattle.flash.specs.Operations.{Op, applied, allowed}
 use Rattle.flash.proofs.OperationLaws.{applied-append, take-append}
 use Rattle.flash.proofs.PageLaws.{length-applied}
-use Rattle.writer.specs.States.{inRange}
+use Rattle.page.specs.Walks.{walkEnd}
+use Rattle.page.specs.declared.walk.Ending.{Ending}
+use Rattle.page.specs.declared.walk.Ending.the-variants.{EndAt, Corrupted}
+use Rattle.writer.specs.States.{firstChunk, inRange}
 use Rattle.writer.specs.Commits.{commitOps, nextChunk}
+use Rattle.writer.specs.Openings.{openedAfter, appended, appendedAt}
 use Rattle.writer.specs.Outcomes.{ended, endedFlash}
-use Rattle.writer.specs.Verdicts.{writerVerdict}
+use Rattle.writer.specs.Verdicts.{writerVerdict, openVerdict}
 use Rattle.writer.specs.Writes.{takes, takenOf, grown, isFull, writeOps, written}
+use Rattle.writer.specs.declared.answers.Opening.the-variants.{Open}
 use Rattle.writer.specs.declared.answers.Outcome.the-variants.{Done, Refused}
 use Rattle.writer.specs.declared.page_writer.PageWriter.{PageWriter}
 use Rattle.writer.proofs.RangeLaws.{write-range}
@@ -54,6 +60,17 @@ written-page w bytes = by (eqb (takes (length bytes) w) 0) (isFull (grown w (tak
     by true t = refl
     by false true = refl
     by false false = refl
+
+-- the writer that open_append hands back stands on the page that it was asked for
+pub append-page : (e : ℕ) (xs : List ℕ) (page : PageID) (h : ℕ) (w : PageWriter) (k : ℕ) → appended e xs page h w k .answer ≡ Open → appended e xs page h w k .writer .page ≡ page
+unfolding appended
+append-page e xs page h w k a = by (openVerdict (length xs) (page .0) h) (walkEnd (pageOf (page .0) xs) (firstChunk h)) a
+  where
+    by : (v : Verdict) (end : Ending) → openedAfter v w k (appendedAt e (pageOf (page .0) xs) page h w k end) .answer ≡ Open
+        → openedAfter v w k (appendedAt e (pageOf (page .0) xs) page h w k end) .writer .page ≡ page
+    by (verdict.Refused why) end a = let z : _≡_ {A = ℕ} 0 1 = cc in absurd (omega arith)
+    by verdict.Fine Corrupted a = let z : _≡_ {A = ℕ} 0 1 = cc in absurd (omega arith)
+    by verdict.Fine (EndAt o) a = refl
 
 going-on : (n : ℕ) (w : PageWriter) (bytes : List ℕ) → Going n w → Going n (written w bytes)
 going-on n w bytes g = record {

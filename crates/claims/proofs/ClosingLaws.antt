@@ -107,7 +107,8 @@ module _ (page₀ : List ℕ) (o e : ℕ) (id : PageID) (h total : ℕ) (buf pay
             made-fit at group page (omega arith)
             ∙ ap₂ (λ (n : ℕ) (b : List ℕ). patch (o + 8 + n) b page) (sym (length-wholes payload)) (ap (λ (l : List ℕ). l ++ drop r buf) top)
             ∙ patch-join (o + 8) (wholes payload) (rest payload ++ drop r buf) page₀
-            ∙ ap (λ (l : List ℕ). patch (o + 8) l page₀) (sym (append-assoc (wholes payload) (rest payload) (drop r buf)) ∙ ap (λ (l : List ℕ). l ++ drop r buf) (take-append-drop (length payload - r) payload));
+            ∙ ap (λ (l : List ℕ). patch (o + 8) l page₀) (sym (append-assoc (wholes payload) (rest payload) (drop r buf))
+            ∙ ap (λ (l : List ℕ). l ++ drop r buf) (take-append-drop (length payload - r) payload));
         round = length-append payload (drop r buf) ∙ ap (λ (n : ℕ). length payload + n) ld ∙ (omega arith);
         small = small;
         fits = fits;

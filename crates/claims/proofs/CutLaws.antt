@@ -14,7 +14,7 @@ use Rattle.crc.specs.Register.{updated}
 use Rattle.flash.specs.Geometry.{flashFine, hasPage, pageStart, pageOf}
 use Rattle.flash.specs.Operations.{Op, applied, allowed}
 use Rattle.flash.proofs.GeometryLaws.{page-inside, length-page}
-use Rattle.flash.proofs.PageLaws.{length-applied, page-applied}
+use Rattle.flash.proofs.PageLaws.{page-applied}
 use Rattle.slices.proofs.PatchLaws.{patch-none}
 use Rattle.page.specs.Headers.{headerFine}
 use Rattle.page.specs.Walks.{walkFrom, allErased}
@@ -82,9 +82,6 @@ module _ (e : ℕ) (xs : List ℕ) (page : PageID) (h : ℕ) (w : PageWriter) (k
     pub added-page : pageOf (page .0) (added e xs page h w k pieces) ≡ applied 0 (take k ops) bytes
     added-page = ap (pageOf (page .0)) added-flash ∙ page-applied (pageStart (page .0)) (take k ops) xs
 
-    pub added-length : length (added e xs page h w k pieces) ≡ length xs
-    added-length = ap length added-flash ∙ length-applied (pageStart (page .0)) (take k ops) xs
-
     module _ (some : 0 < length payload) where
       -- where bytes were taken there was room for them, and the page read as erased
       fits-there : writer .offset + 8 < pageSize
@@ -124,4 +121,5 @@ module _ (e : ℕ) (xs : List ℕ) (page : PageID) (h : ℕ) (w : PageWriter) (k
 
       pub stored : Stored bytes o payload bytes ops
       stored =
-          addition-stored bytes o e even pieces writer [] bytes adding (let m : resumeAt e bytes o + 8 < pageSize = fits-there in let n : resumeAt e bytes o ≡ o = at-end in omega arith) (omega arith) some
+          addition-stored bytes o e even pieces writer [] bytes adding (let m : resumeAt e bytes o + 8 < pageSize = fits-there in let n : resumeAt e bytes o ≡ o = at-end in omega arith)
+          (omega arith) some

@@ -15,7 +15,10 @@ use Rattle.flash.specs.Operations.{Op, applied}
 use Rattle.slices.specs.Patch.{blank}
 use Rattle.flash.proofs.PageLaws.{length-applied}
 use Rattle.page.specs.Chunks.{chunkMagic, nextOffset}
+use Rattle.page.specs.Headers.{headerOf}
 use Rattle.page.specs.Walks.{Chunk, walkFrom}
+use Rattle.page.proofs.HeaderLaws.{headerOf-below}
+use Rattle.page.proofs.LaidLaws.{walk-ended}
 use Rattle.writer.specs.Openings.{appended, resumeAt}
 use Rattle.writer.specs.States.{fresh}
 use Rattle.writer.specs.Writes.{takes, takenOf, written}
@@ -107,6 +110,10 @@ module _ (e : ℕ) (unmarked : word (blank e 2) ≡ chunkMagic → ⊥) (xs : Li
 
   same : take o after ≡ take o before
   same = ap (take o) page-is ∙ at-page (λ r b v s. below-kept e unmarked before (pageHeaderSize + h) o r payload b ops v s k)
+
+  -- the higher header stays, wherever the cut fell
+  pub header-kept : headerOf after h ≡ headerOf before h
+  header-kept = headerOf-below h o before after (walk-ended before (pageHeaderSize + h) o (good .ends) .up) same
 
   -- BEFORE THE LAST STORE: the old payloads
   pub page-before : k < storeCount e xs page h w k pieces → Good magic (page .0) h o after × (payloads after h ≡ payloads before h)

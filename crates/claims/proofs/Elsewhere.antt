@@ -1,31 +1,34 @@
 -- No call changes a byte of another page, nor any byte that none of its operations covers, nor the flash's length. The calls of a
 -- writer that store are write, commit and write_header, each a duty that leaves the flash as `leaves` says; the flash's own store_if
--- and erase_if leave it as `allowed` says. No other call is lent the flash to change it. Assumes nothing.
-use mathlib.Core.Path.{_≡_, refl, ap, _∙_}
+-- and erase_if leave it as `allowed` says. No other call is lent the flash to change it. So a whole addition and any history of a page
+-- leave every other page as it was. Assumes nothing.
+use mathlib.Core.Path.{_≡_, refl, ap, subst, _∙_}
+use mathlib.Core.Bool.{Bool, true, false, cond}
 use mathlib.Core.List.{List, [], _∷_}
 use mathlib.Core.Logic.{_⊎_, ⊎-elim}
 use Prim.Native.Nat.{ℕ, _+_, _≤_, _<_}
 use lib.ListN.{length, take, getD}
+use Rattle.types.specs.declared.page_id.PageID.{PageID}
 use Rattle.types.specs.declared.refusal.Verdict.{Verdict}
 use Rattle.types.specs.declared.refusal.Verdict.the-variants.{Fine, Refused}
 use Rattle.flash.specs.Geometry.{pageStart, pageOf}
-use Rattle.flash.specs.Operations.{Op, made, applied, allowed}
+use Rattle.flash.specs.Operations.{Op, made, applied, spent, allowed}
 use Rattle.flash.proofs.PageLaws.{opAt, opBytes, made-patch, length-applied, other-page}
 use Rattle.slices.proofs.PatchLaws.{patch-below, patch-above}
-use Rattle.writer.specs.Duties.{Duty, leaves, makes}
-use Rattle.writer.specs.Outcomes.{endedFlash, endedOps}
+use Rattle.writer.specs.Duties.{Duty, writeDuty, commitDuty, handsBack, leaves, makes}
+use Rattle.writer.specs.Openings.{appended}
+use Rattle.writer.specs.Outcomes.{ended, endedFlash, endedOps}
+use Rattle.writer.specs.Verdicts.{writerVerdict}
+use Rattle.writer.specs.Writes.{writeOps, written}
+use Rattle.writer.specs.declared.answers.Opening.{Opening}
+use Rattle.writer.specs.declared.answers.Opening.the-variants as opening
+use Rattle.writer.specs.declared.answers.Outcome.{Outcome}
+use Rattle.writer.specs.declared.answers.Outcome.the-variants as outcome
 use Rattle.writer.specs.declared.page_writer.PageWriter.{PageWriter}
-
--- byte i of the flash lies before or behind what each operation puts on the page that starts at base
-abbrev pub Uncovered : ℕ → List Op → ℕ → Type 0
-Uncovered base [] i = Unit
-Uncovered base (op ∷ ops) i = ((i < base + opAt op) ⊎ (base + opAt op + length (opBytes op) ≤ i)) × Uncovered base ops i
-
--- the flash was xs and is ys, after these operations on page p
-pub record Elsewhere (p : ℕ) (ops : List Op) (xs ys : List ℕ) : Type 0 where
-  pub other-pages : (q : ℕ) → (p ≡ q → ⊥) → pageOf q ys ≡ pageOf q xs
-  pub uncovered : (i d : ℕ) → Uncovered (pageStart p) ops i → getD ys i d ≡ getD xs i d
-  pub long : length ys ≡ length xs
+use Rattle.claims.specs.Additions.{fills, goOn, afterWrites, opened, added}
+use Rattle.claims.specs.Histories.{Episode, history}
+use Rattle.claims.specs.Untouched.{Uncovered, OthersKept, Elsewhere}
+use Rattle.claims.proofs.CallLaws.{append-page, written-page}
 
 made-uncovered : (base : ℕ) (op : Op) (xs : List ℕ) (i d : ℕ) → (i < base + opAt op) ⊎ (base + opAt op + length (opBytes op) ≤ i) → getD (made base op xs) i d ≡ getD xs i d
 made-uncovered base op xs i d o =
@@ -39,9 +42,8 @@ applied-uncovered base (op ∷ ops) xs i d u = applied-uncovered base ops (made 
 -- of store_if and erase_if, and of any list of operations
 pub operations-elsewhere : (p left : ℕ) (ops : List Op) (xs : List ℕ) → Elsewhere p (take left ops) xs (allowed (pageStart p) left ops xs)
 operations-elsewhere p left ops xs = record {
-  other-pages = λ q other. other-page p q (take left ops) xs other;
+  others = record { other-pages = λ q other. other-page p q (take left ops) xs other; long = length-applied (pageStart p) (take left ops) xs };
   uncovered = λ i d u. applied-uncovered (pageStart p) (take left ops) xs i d u;
-  long = length-applied (pageStart p) (take left ops) xs;
 }
 
 -- ELSEWHERE: any call of a writer
@@ -49,5 +51,62 @@ pub elsewhere : (d : Duty) (w : PageWriter) (left : ℕ) (xs : List ℕ) → Els
 elsewhere d w left xs = by (d .verdict) (d .ops)
   where
     by : (v : Verdict) (ops : List Op) → Elsewhere (w .page .0) (endedOps v ops left) xs (endedFlash v ops w left xs)
-    by (Refused why) ops = record { other-pages = λ q other. refl; uncovered = λ i d u. refl; long = refl }
+    by (Refused why) ops = record { others = record { other-pages = λ q other. refl; long = refl }; uncovered = λ i d u. refl }
     by Fine ops = operations-elsewhere (w .page .0) left ops xs
+
+-- ---- a whole addition, and a history of them
+
+kept-none : (p : ℕ) (xs : List ℕ) → OthersKept p xs xs
+kept-none p xs = record { other-pages = λ q other. refl; long = refl }
+
+kept-then : (p : ℕ) (xs ys zs : List ℕ) → OthersKept p xs ys → OthersKept p ys zs → OthersKept p xs zs
+kept-then p xs ys zs a b = record { other-pages = λ q other. b .other-pages q other ∙ a .other-pages q other; long = b .long ∙ a .long }
+
+-- the writer that a write hands back stands on the page on which it stood
+back-page : (e : ℕ) (xs : List ℕ) (w : PageWriter) (bytes : List ℕ) (left : ℕ) → handsBack (writeDuty e xs w bytes) w left .writer .page ≡ w .page
+back-page e xs w bytes left = by (writerVerdict (length xs) w)
+  where
+    either : (t : Bool) → cond t (written w bytes) w .page ≡ w .page
+    either true = written-page w bytes
+    either false = refl
+
+    by : (v : Verdict) → ended v (writeOps e w bytes) (written w bytes) w left .writer .page ≡ w .page
+    by (Refused why) = refl
+    by Fine = either (spent left (writeOps e w bytes) .ok)
+
+-- it ends with a write, or goes on
+ends-kept : (p : ℕ) (a : Outcome) (t : Bool) (xs ys zs : List ℕ) → OthersKept p xs ys → OthersKept p ys zs → OthersKept p xs (goOn a (cond t ys zs) ys)
+ends-kept p (outcome.Refused why) t xs ys zs k l = k
+ends-kept p outcome.Done true xs ys zs k l = k
+ends-kept p outcome.Done false xs ys zs k l = kept-then p xs ys zs k l
+
+writes-kept : (e : ℕ) (page : PageID) (pieces : List (List ℕ)) (w : PageWriter) (left : ℕ) (xs : List ℕ) → w .page ≡ page
+    → OthersKept (page .0) xs (afterWrites e pieces w left xs)
+unfolding afterWrites
+writes-kept e page [] w left xs same =
+    subst (λ (p : PageID). OthersKept (p .0) xs (leaves (commitDuty e xs w) w left xs)) same (elsewhere (commitDuty e xs w) w left xs .others)
+writes-kept e page (bytes ∷ pieces) w left xs same =
+    let d = writeDuty e xs w bytes in
+    let back = handsBack d w left in
+    let ys = leaves d w left xs in
+    ends-kept (page .0) (back .answer) (fills w bytes) xs ys (afterWrites e pieces (back .writer) (back .left) ys)
+    (subst (λ (p : PageID). OthersKept (p .0) xs ys) same (elsewhere d w left xs .others))
+    (writes-kept e page pieces (back .writer) (back .left) ys (back-page e xs w bytes left ∙ same))
+
+-- CUT ELSEWHERE: on any flash, good or not, whatever the writer at entry, the pieces and the number of stores
+pub cut-elsewhere : (e : ℕ) (xs : List ℕ) (page : PageID) (h : ℕ) (w : PageWriter) (k : ℕ) (pieces : List (List ℕ)) → OthersKept (page .0) xs (added e xs page h w k pieces)
+unfolding added
+cut-elsewhere e xs page h w k pieces = by (appended e xs page h w k .answer) refl
+  where
+    by : (a : Opening) → appended e xs page h w k .answer ≡ a
+        → OthersKept (page .0) xs (opened a (afterWrites e pieces (appended e xs page h w k .writer) (appended e xs page h w k .left) xs) xs)
+    by (opening.Refused why) a = kept-none (page .0) xs
+    by opening.Open a = writes-kept e page pieces (appended e xs page h w k .writer) (appended e xs page h w k .left) xs (append-page e xs page h w k a)
+
+-- and after any episodes
+pub history-elsewhere : (e : ℕ) (page : PageID) (h : ℕ) (ts : List Episode) (xs : List ℕ) → OthersKept (page .0) xs (history e xs page h ts)
+unfolding history
+history-elsewhere e page h [] xs = kept-none (page .0) xs
+history-elsewhere e page h (t ∷ ts) xs =
+    let ys = added e xs page h (t .writer) (t .stores) (t .pieces) in
+    kept-then (page .0) xs ys (history e ys page h ts) (cut-elsewhere e xs page h (t .writer) (t .stores) (t .pieces)) (history-elsewhere e page h ts ys)

@@ -53,7 +53,8 @@ module _ (magic p h o : ℕ) (page next : List ℕ) (good : Good magic p h o pag
   placed =
       let f = both-true _ _ (good .length-fine) in
       let a : h % 4 ≡ 0 = eqb-true _ _ (f .0) in
-      subst (λ (n : ℕ). All (Placed start n) (walkFrom page start .chunks)) (walk-ends-at page start o (good .ends)) (laid-placed start (walkFrom page start .chunks) (omega arith) (walk-laid page start))
+      subst (λ (n : ℕ). All (Placed start n) (walkFrom page start .chunks)) (walk-ends-at page start o (good .ends))
+      (laid-placed start (walkFrom page start .chunks) (omega arith) (walk-laid page start))
 
   header-kept : pageHeaderFine next magic p h ≡ true
   header-kept = header-below magic p h o page next (walk-ended page start o (good .ends) .up) same ∙ good .header

@@ -16,6 +16,7 @@ use Rattle.flash.specs.Geometry.{flashFine, hasPage, pageOf}
 use Rattle.flash.specs.Operations.{Op, applied}
 use Rattle.slices.specs.Patch.{blank}
 use Rattle.page.specs.Chunks.{chunkMagic, nextOffset}
+use Rattle.page.specs.Headers.{headerOf}
 use Rattle.writer.specs.Openings.{appended, resumeAt}
 use Rattle.writer.specs.States.{fresh}
 use Rattle.writer.specs.declared.answers.Opened.{Opened}
@@ -24,13 +25,15 @@ use Rattle.claims.specs.Additions.{addition, additionOps, added, newPayl
 use Rattle.claims.specs.Histories.{Episode, AllPieces, history, keptPayloads}
 use Rattle.claims.specs.Pages.{AllBytes, Good, payloads}
 use Rattle.claims.proofs.AdditionLaws.{addition-empty}
-use Rattle.claims.proofs.CutLaws.{Shape, append-as, added-page, added-length}
-use Rattle.claims.proofs.CutPage.{page-before, page-after}
+use Rattle.claims.proofs.CutLaws.{Shape, append-as, added-page}
+use Rattle.claims.proofs.CutPage.{page-before, page-after, header-kept}
+use Rattle.claims.proofs.Elsewhere.{cut-elsewhere}
 
--- a good page whose payloads are those of an older one and more
+-- a good page with an older one's higher header, whose payloads are those of the older one and more
 pub record Holds (magic p h : ℕ) (older page : List ℕ) (more : List (List ℕ)) : Type 0 where
   pub o : ℕ
   pub good : Good magic p h o page
+  pub header : headerOf page h ≡ headerOf older h
   pub are : payloads page h ≡ payloads older h ++ more
 
 nothing : (l : List ℕ) → length l ≡ 0 → l ≡ []
@@ -39,7 +42,8 @@ nothing (x ∷ l) z = absurd (omega arith)
 
 module _ (e : ℕ) (unmarked : word (blank e 2) ≡ chunkMagic → ⊥) (page : PageID) (magic h : ℕ) (w : PageWriter) where
   -- one addition
-  pub addition-holds : (xs : List ℕ) (k : ℕ) (ps : List (List ℕ)) (o : ℕ) → flashFine (length xs) ≡ true → hasPage (length xs) (page .0) ≡ true → Good magic (page .0) h o (pageOf (page .0) xs) → AllBytes ps
+  pub addition-holds : (xs : List ℕ) (k : ℕ) (ps : List (List ℕ)) (o : ℕ) → flashFine (length xs) ≡ true → hasPage (length xs) (page .0) ≡ true
+      → Good magic (page .0) h o (pageOf (page .0) xs) → AllBytes ps
       → Holds magic (page .0) h (pageOf (page .0) xs) (pageOf (page .0) (added e xs page h w k ps)) (addedPayload e xs page h w k ps)
   addition-holds xs k ps o fine there good bytes =
       let new = newPayload e xs page h w k ps in
@@ -57,6 +61,7 @@ module _ (e : ℕ) (unmarked : word (blank e 2) ≡ chunkMagic → ⊥) (page : 
       record {
         o = o;
         good = subst (λ (p : List ℕ). Good magic (page .0) h o p) (sym same) good;
+        header = ap (λ (p : List ℕ). headerOf p h) same;
         are = ap (λ (p : List ℕ). payloads p h) same ∙ sym (append-nil (payloads before h)) ∙ ap (λ (b : Bool). payloads before h ++ cond b (new ∷ []) []) (sym f);
       })
       (λ (n : length new ≡ 0 → ⊥).
@@ -68,6 +73,7 @@ module _ (e : ℕ) (unmarked : word (blank e 2) ≡ chunkMagic → ⊥) (page : 
       record {
         o = nextOffset o (length new);
         good = r .0;
+        header = header-kept e unmarked xs page magic h o w k ps fine there good bytes some;
         are = r .1 ∙ ap (λ (b : Bool). payloads before h ++ cond b (new ∷ []) []) (sym (b ∙ le-leb (storeCount e xs page h w k ps) k all));
       })
       (λ (cut : k < storeCount e xs page h w k ps).
@@ -75,6 +81,7 @@ module _ (e : ℕ) (unmarked : word (blank e 2) ≡ chunkMagic → ⊥) (page : 
       record {
         o = o;
         good = r .0;
+        header = header-kept e unmarked xs page magic h o w k ps fine there good bytes some;
         are = r .1 ∙ sym (append-nil (payloads before h)) ∙ ap (λ (b : Bool). payloads before h ++ cond b (new ∷ []) []) (sym (b ∙ lt-leb (storeCount e xs page h w k ps) k cut));
       })
       (le-or-lt (storeCount e xs page h w k ps) k))
@@ -85,32 +92,21 @@ module _ (e : ℕ) (unmarked : word (blank e 2) ≡ chunkMagic → ⊥) (page : 
   pub history-holds : (ts : List Episode) (xs : List ℕ) (o : ℕ) → flashFine (length xs) ≡ true → hasPage (length xs) (page .0) ≡ true → Good magic (page .0) h o (pageOf (page .0) xs) → AllPieces ts
       → Holds magic (page .0) h (pageOf (page .0) xs) (pageOf (page .0) (history e xs page h ts)) (keptPayloads e xs page h ts)
   unfolding history keptPayloads
-  history-holds [] xs o fine there good bytes = record { o = o; good = good; are = sym (append-nil (payloads (pageOf (page .0) xs) h)) }
+  history-holds [] xs o fine there good bytes = record { o = o; good = good; header = refl; are = sym (append-nil (payloads (pageOf (page .0) xs) h)) }
   history-holds (t ∷ ts) xs o fine there good bytes =
       let k = t .stores in
       let w = t .writer in
       let ps = t .pieces in
       let ys = added e xs page h w k ps in
       let one = addition-holds e unmarked page magic h (t .writer) xs (t .stores) (t .pieces) o fine there good (bytes .0) in
-      let l : length ys ≡ length xs = added-length e xs page h w k o (record { flash = fine; header = good .length-fine; there = there }) (good .ends) ps in
+      let l : length ys ≡ length xs = cut-elsewhere e xs page h w k ps .long in
       let rest = history-holds ts ys (one .o) (ap flashFine l ∙ fine) (ap (λ (n : ℕ). hasPage n (page .0)) l ∙ there) (one .good) (bytes .1) in
       record {
         o = rest .o;
         good = rest .good;
+        header = rest .header ∙ one .header;
         are =
             rest .are
             ∙ ap (λ (x : List (List ℕ)). x ++ keptPayloads e ys page h ts) (one .are)
             ∙ append-assoc (payloads (pageOf (page .0) xs) h) _ (keptPayloads e ys page h ts);
       }
-
-  -- the flash keeps its length
-  pub history-length : (ts : List Episode) (xs : List ℕ) (o : ℕ) → flashFine (length xs) ≡ true → hasPage (length xs) (page .0) ≡ true → Good magic (page .0) h o (pageOf (page .0) xs) → AllPieces ts
-      → length (history e xs page h ts) ≡ length xs
-  unfolding history
-  history-length [] xs o fine there good bytes = refl
-  history-length (t ∷ ts) xs o fine there good bytes =
-      let w = t .writer in
-      let ys = added e xs page h w (t .stores) (t .pieces) in
-      let one = addition-holds e unmarked page magic h (t .writer) xs (t .stores) (t .pieces) o fine there good (bytes .0) in
-      let l : length ys ≡ length xs = added-length e xs page h w (t .stores) o (record { flash = fine; header = good .length-fine; there = there }) (good .ends) (t .pieces) in
-      history-length ts ys (one .o) (ap flashFine l ∙ fine) (ap (λ (n : ℕ). hasPage n (page .0)) l ∙ there) (one .good) (bytes .1) ∙ l

@@ -3,6 +3,7 @@ pub mod AdditionLaws
 pub mod AskedAgain
 pub mod CallLaws
 pub mod ClosingLaws
+pub mod CountMade
 pub mod CutLaws
 pub mod CutPage
 pub mod CutSafe
@@ -27,5 +28,8 @@ pub mod OneTypes
 pub mod OneWriter
 pub mod OutcomeLaws
 pub mod PageCutLaws
+pub mod RedoLaws
+pub mod Retried
 pub mod StarredNumbers
+pub mod WorkedCalls
 pub mod WorkedLaws

@@ -1,36 +1,31 @@
 -- A page that meets the premises of `cut-safe`, and what a new reader finds on it: the byte 6 is added to the byte 5 and the power
--- fails before the header's store, or does not. And the stores of two chunks, each of which lies on erased bytes. Assumes nothing.
+-- fails before the header's store, or does not. And what it leaves of a higher header and of a second page. Assumes nothing.
 use mathlib.Core.Bool.{true, xor}
-use mathlib.Core.Path.{_≡_, refl, ap, _∙_}
-use mathlib.Core.List.{List, [], _∷_, _++_, map}
+use mathlib.Core.Path.{_≡_, refl, ap, subst, _∙_}
+use mathlib.Core.List.{List, [], _∷_, _++_, flatten}
 use Prim.Native.Nat.{ℕ, zero, suc, _<_}
 use native.Mathlib.Omega.{arith}
 use lib.ListN.{length, getD}
-use Rattle.types.specs.Build.{eraseValue}
+use Rattle.types.specs.Build.{eraseValue, pageSize}
 use Rattle.types.specs.Bytes.{Bytes, word, bytesOf}
 use Rattle.crc.specs.Published as crc
 use Rattle.crc.specs.Register.{tap, stepped, steps, taken, updated}
 use Rattle.flash.specs.Geometry.{flashFine, hasPage, pageOf}
 use Rattle.slices.specs.Patch.{over, patch, blank}
 use Rattle.page.specs.Chunks.{chunkHeader, chunkAt}
-use Rattle.page.specs.Headers.{pageHeader, pageHeaderFine}
+use Rattle.page.specs.Headers.{headerOf, pageHeader, pageHeaderFine}
 use Rattle.page.specs.Walks.{walk, walkFrom, allErased}
-use Rattle.reader.specs.Finds.{found}
+use Rattle.reader.specs.Finds.{found, foundWith, joined}
 use Rattle.writer.specs.Commits.{chunkOps}
 use Rattle.writer.specs.Openings.{appended}
-use Rattle.writer.specs.Starred.{Place, placeOf}
 use Rattle.writer.specs.States.{inRange, newWriter}
-use Rattle.writer.specs.declared.answers.Opened.{Opened}
-use Rattle.writer.specs.declared.answers.Opening.the-variants.{Open}
 use Rattle.writer.specs.Verdicts.{writerVerdict, openVerdict}
 use Rattle.writer.specs.Writes.{groupOf, bufferOf, payloadOps, takingOps}
-use Rattle.writer.proofs.StoreLaws.{Lands}
 use Rattle.claims.specs.Additions.{added, addition, additionOps, addedPayload}
-use Rattle.claims.specs.Pages.{AllBytes, Good, payloads}
-use Rattle.claims.specs.Sequences.{callsMake}
-use Rattle.claims.specs.Worked.{workedMagic, workedPage, chunkOfOne, workedFlash, headedFlash, twoChunks}
-use Rattle.claims.proofs.CutSafe.{finds, cut-safe}
-use Rattle.claims.proofs.ErasedLaws.{writes-on-erased}
+use Rattle.claims.specs.Pages.{AllBytes, Good, payloads, finds, handsOut, Opens}
+use Rattle.claims.specs.Worked.{workedMagic, workedPage, chunkOfOne, workedFlash, headedFlash, higherFlash, twoPages}
+use Rattle.claims.proofs.CutSafe.{cut-safe, cut-safe-rooms, cut-safe-header}
+use Rattle.claims.proofs.Elsewhere.{cut-elsewhere}
 
 abbrev six : List (List ℕ)
 six = (6 ∷ []) ∷ []
@@ -44,17 +39,21 @@ six-bytes = (byte, tt)
     byte (suc i) = omega arith
 
 worked-shape : (flashFine (length workedFlash) ≡ true) × (hasPage (length workedFlash) 0 ≡ true)
-unfolding word bytesOf crc.bits crc.number crc.message crc.among crc.terms crc.generator xor crc.plus crc.divided crc.dividend crc.remainder crc.published blank chunkHeader pageHeader chunkOfOne workedFlash
+unfolding word bytesOf crc.bits crc.number crc.message crc.among crc.terms crc.generator xor crc.plus crc.divided crc.dividend crc.remainder crc.published blank chunkHeader
+    pageHeader chunkOfOne workedFlash
 worked-shape = (refl, refl)
 
 worked-good : Good workedMagic 0 0 24 (pageOf 0 workedFlash)
-unfolding word bytesOf crc.bits crc.number crc.message crc.among crc.terms crc.generator xor crc.plus crc.divided crc.dividend crc.remainder crc.published blank chunkHeader pageHeader chunkOfOne workedFlash pageHeaderFine chunkAt walk walkFrom
+unfolding word bytesOf crc.bits crc.number crc.message crc.among crc.terms crc.generator xor crc.plus crc.divided crc.dividend crc.remainder crc.published blank chunkHeader
+    pageHeader chunkOfOne workedFlash pageHeaderFine chunkAt walk walkFrom
 worked-good = record { whole = refl; length-fine = refl; header = refl; ends = refl; chunks = (record { some = omega arith; sum = refl }, tt) }
 
 -- what is found in all, by computation
 worked-payloads : (payloads (pageOf 0 workedFlash) 0 ++ addedPayload eraseValue workedFlash workedPage 0 newWriter 1 six ≡ (5 ∷ []) ∷ [])
     × (payloads (pageOf 0 workedFlash) 0 ++ addedPayload eraseValue workedFlash workedPage 0 newWriter 2 six ≡ (5 ∷ []) ∷ (6 ∷ []) ∷ [])
-unfolding word bytesOf crc.bits crc.number crc.message crc.among crc.terms crc.generator xor crc.plus crc.divided crc.dividend crc.remainder crc.published tap stepped steps taken updated over patch blank chunkHeader pageHeader chunkOfOne workedFlash chunkAt walk walkFrom allErased chunkOps appended inRange writerVerdict openVerdict groupOf bufferOf payloadOps takingOps addition additionOps
+unfolding word bytesOf crc.bits crc.number crc.message crc.among crc.terms crc.generator xor crc.plus crc.divided crc.dividend crc.remainder crc.published tap stepped steps taken
+    updated over patch blank chunkHeader pageHeader chunkOfOne workedFlash chunkAt walk walkFrom allErased chunkOps appended inRange writerVerdict openVerdict groupOf bufferOf
+    payloadOps takingOps addition additionOps
 worked-payloads = (refl, refl)
 
 -- after one store of two the old byte is found, after both the two of them
@@ -68,22 +67,43 @@ worked-whole =
     cut-safe workedFlash workedPage workedMagic 0 24 newWriter 2 six (worked-shape .0) (worked-shape .1) worked-good six-bytes
     ∙ ap finds (worked-payloads .1)
 
--- ---- two chunks, one after the other
+-- into buffers of one byte each: the same bytes
+abbrev small : ℕ → List ℕ
+small i = 0 ∷ []
 
-abbrev reopened : Opened
-reopened = appended eraseValue headedFlash workedPage 0 newWriter 4
+pub worked-rooms : joined (foundWith small (added eraseValue workedFlash workedPage 0 newWriter 2 six) workedMagic workedPage 0) ≡ handsOut (5 ∷ 6 ∷ [])
+unfolding flatten
+worked-rooms =
+    cut-safe-rooms workedFlash workedPage workedMagic 0 24 newWriter 2 six (worked-shape .0) (worked-shape .1) worked-good six-bytes small (λ i. omega arith)
+    ∙ ap (λ (l : List (List ℕ)). handsOut (flatten l)) (worked-payloads .1)
 
-reopens : reopened .answer ≡ Open
-unfolding word bytesOf crc.bits crc.number crc.message crc.among crc.terms crc.generator xor crc.plus crc.divided crc.dividend crc.remainder crc.published blank pageHeader headedFlash chunkAt walk walkFrom allErased appended openVerdict
-reopens = refl
+-- ---- a page with a higher header
 
-abbrev place : ℕ → ℕ → Place
-place from size = record { from = from; size = size }
+higher-shape : (flashFine (length higherFlash) ≡ true) × (hasPage (length higherFlash) 0 ≡ true)
+unfolding word bytesOf crc.bits crc.number crc.message crc.among crc.terms crc.generator xor crc.plus crc.divided crc.dividend crc.remainder crc.published blank pageHeader higherFlash
+higher-shape = (refl, refl)
 
--- the payload and then the header, of the one at 12 and of the one at 24
-pub worked-stores : map placeOf (callsMake eraseValue twoChunks (reopened .writer) (reopened .left) headedFlash) ≡ place 20 4 ∷ place 12 8 ∷ place 32 4 ∷ place 24 8 ∷ []
-unfolding word bytesOf crc.bits crc.number crc.message crc.among crc.terms crc.generator xor crc.plus crc.divided crc.dividend crc.remainder crc.published tap stepped steps taken updated over patch blank chunkHeader pageHeader headedFlash chunkAt walk walkFrom allErased chunkOps appended inRange writerVerdict openVerdict groupOf bufferOf payloadOps takingOps placeOf callsMake
-worked-stores = refl
+higher-good : Good workedMagic 0 4 16 (pageOf 0 higherFlash)
+unfolding word bytesOf crc.bits crc.number crc.message crc.among crc.terms crc.generator xor crc.plus crc.divided crc.dividend crc.remainder crc.published blank pageHeader
+    higherFlash pageHeaderFine chunkAt walk walkFrom
+higher-good = record { whole = refl; length-fine = refl; header = refl; ends = refl; chunks = tt }
 
-pub worked-on-erased : Lands eraseValue (callsMake eraseValue twoChunks (reopened .writer) (reopened .left) headedFlash) (pageOf 0 headedFlash)
-worked-on-erased = writes-on-erased eraseValue headedFlash workedPage 0 newWriter 4 twoChunks reopens
+higher-header : headerOf (pageOf 0 higherFlash) 4 ≡ 1 ∷ 2 ∷ 3 ∷ 4 ∷ []
+unfolding word bytesOf crc.bits crc.number crc.message crc.among crc.terms crc.generator xor crc.plus crc.divided crc.dividend crc.remainder crc.published blank pageHeader higherFlash
+higher-header = refl
+
+-- after one store of an addition open hands out its four bytes
+pub worked-header : Opens (added eraseValue higherFlash workedPage 4 newWriter 1 six) workedMagic workedPage 4 (1 ∷ 2 ∷ 3 ∷ 4 ∷ [])
+worked-header =
+    subst (λ (l : List ℕ). Opens (added eraseValue higherFlash workedPage 4 newWriter 1 six) workedMagic workedPage 4 l) higher-header
+    (cut-safe-header higherFlash workedPage workedMagic 4 16 newWriter 1 six (higher-shape .0) (higher-shape .1) higher-good six-bytes)
+
+-- ---- a second page
+
+second-page : pageOf 1 twoPages ≡ blank 9 pageSize
+unfolding word bytesOf crc.bits crc.number crc.message crc.among crc.terms crc.generator xor crc.plus crc.divided crc.dividend crc.remainder crc.published blank pageHeader headedFlash twoPages
+second-page = refl
+
+-- a chunk is added to the first page; all of the second is as it was
+pub worked-elsewhere : pageOf 1 (added eraseValue twoPages workedPage 0 newWriter 2 six) ≡ blank 9 pageSize
+worked-elsewhere = cut-elsewhere eraseValue twoPages workedPage 0 newWriter 2 six .other-pages 1 (λ (e : 0 ≡ 1). omega arith) ∙ second-page

@@ -3,6 +3,7 @@ pub mod Again
 pub mod Pages
 pub mod Histories
 pub mod Sequences
+pub mod Untouched
 pub mod Worked
 pub mod Starred
 pub mod Outcomes

@@ -3,14 +3,19 @@
 use mathlib.Core.Path.{_≡_}
 use mathlib.Core.Bool.{true}
 use mathlib.Core.List.{List, [], _∷_, map}
-use Prim.Native.Nat.{ℕ, _+_}
+use Prim.Native.Nat.{ℕ, _+_, _≤_}
 use lib.ListN.{length}
 use Rattle.types.specs.Build.{pageSize, pageHeaderSize}
 use Rattle.types.specs.Bytes.{Bytes}
+use Rattle.types.specs.declared.page_id.PageID.{PageID}
+use Rattle.types.specs.declared.refusal.Verdict.the-variants.{Fine}
 use Rattle.page.specs.Headers.{headerFine, pageHeaderFine}
 use Rattle.page.specs.Walks.{Chunk, walkFrom}
 use Rattle.page.specs.declared.walk.Ending.the-variants.{EndAt}
-use Rattle.reader.specs.Finds.{payloadOf, NotEmpty, sumRight}
+use Rattle.reader.specs.Calls.{openPage, openBytes}
+use Rattle.reader.specs.Finds.{Found, Joined, payloadOf, NotEmpty, sumRight}
+use Rattle.reader.specs.declared.answers.Outcome.the-variants.{Done}
+use Rattle.reader.specs.declared.page_reader.PageReader.{PageReader}
 
 -- a chunk that is not empty and whose sum is right
 pub record Right (page : List ℕ) (c : Chunk) : Type 0 where
@@ -38,3 +43,22 @@ payloads page h = map (payloadOf page) (walkFrom page (pageHeaderSize + h) .chun
 abbrev pub AllBytes : List (List ℕ) → Type 0
 AllBytes [] = Unit
 AllBytes (bytes ∷ pieces) = Bytes bytes × AllBytes pieces
+
+-- ---- what a new reader finds on it
+
+-- exactly these payloads, one a read, and then the end
+abbrev pub finds : List (List ℕ) → Found
+finds parts = record { parts = parts; ends = Fine }
+
+-- exactly these bytes in all, and then the end
+abbrev pub handsOut : List ℕ → Joined
+handsOut bytes = record { bytes = bytes; ends = Fine }
+
+-- buffers, one for each read, with room for at least one byte
+abbrev pub Rooms : (ℕ → List ℕ) → Type 0
+Rooms buffers = (i : ℕ) → 1 ≤ length (buffers i)
+
+-- open of a page with h bytes of higher header is done for any reader, and fills the header buffer with these bytes
+pub record Opens (flash : List ℕ) (magic : ℕ) (page : PageID) (h : ℕ) (bytes : List ℕ) : Type 0 where
+  pub done : (r : PageReader) → openPage r flash magic page h .answer ≡ Done
+  pub header : (r : PageReader) (buffer : List ℕ) → length buffer ≡ h → openBytes r flash magic page buffer ≡ bytes
