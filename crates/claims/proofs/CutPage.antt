@@ -5,7 +5,6 @@ use mathlib.Core.List.{List, [], _∷_, _++_}
 use Prim.Native.Nat.{ℕ, zero, suc, _+_, _%_, _≤_, _<_}
 use native.Mathlib.Omega.{arith}
 use lib.ListN.{length, take}
-use borrow.Author.Tests.{eq-eqb}
 use Rattle.types.specs.Build.{pageSize, pageHeaderSize}
 use Rattle.types.specs.Bytes.{Bytes, word}
 use Rattle.types.specs.declared.page_id.PageID.{PageID}
@@ -17,6 +16,7 @@ use Rattle.flash.proofs.PageLaws.{length-applied}
 use Rattle.page.specs.Chunks.{chunkMagic, nextOffset}
 use Rattle.page.specs.Headers.{headerOf}
 use Rattle.page.specs.Walks.{Chunk, walkFrom}
+use Rattle.page.proofs.ChunkLaws.{payload-fine}
 use Rattle.page.proofs.HeaderLaws.{headerOf-below}
 use Rattle.page.proofs.LaidLaws.{walk-ended}
 use Rattle.writer.specs.Openings.{appended, resumeAt}
@@ -133,7 +133,7 @@ module _ (e : ℕ) (unmarked : word (blank e 2) ≡ chunkMagic → ⊥) (xs : Li
       let more = good-more magic (page .0) h o before after good long same c (nextOffset o (length payload))
       (ap (λ (p : List ℕ). walkFrom p (pageHeaderSize + h)) page-is
       ∙ at-page (λ r b v s. walk-after e unmarked before (pageHeaderSize + h) o r payload b ops v s k all'))
-      (record { some = some-taken; sum = eq-eqb (published (payloadOf after c)) (c .crc) (ap published there-is) }) in (
+      (record { some = some-taken; sum = payload-fine after o payload there-is }) in (
         subst (λ (l : List ℕ). Good magic (page .0) h (nextOffset o (length l)) after) (sym payload-is) (more .0),
         more .1 ∙ ap (λ (l : List ℕ). payloads before h ++ (l ∷ [])) (there-is ∙ sym payload-is),
       )

@@ -4,18 +4,16 @@ use mathlib.Core.Bool.{true}
 use mathlib.Core.List.{List, [], _∷_, _++_, map}
 use Prim.Native.Nat.{ℕ, _+_, _%_}
 use native.Mathlib.Omega.{arith}
-use lib.Dec.{eqb}
 use lib.ListN.{length, take}
 use borrow.Author.Tests.{eqb-true}
 use Rattle.types.specs.Build.{pageSize, pageHeaderSize}
 use Rattle.types.proofs.TestLaws.{both-true}
-use Rattle.crc.specs.Published.{published}
 use Rattle.page.specs.Headers.{pageHeaderFine}
 use Rattle.page.specs.Walks.{Chunk, Walked, walkFrom}
 use Rattle.page.specs.declared.walk.Ending.the-variants.{EndAt}
 use Rattle.page.proofs.HeaderLaws.{header-below}
 use Rattle.page.proofs.LaidLaws.{All, Placed, laid-placed, walk-laid, walk-ends-at, walk-ended}
-use Rattle.page.proofs.OntoLaws.{payload-below}
+use Rattle.page.proofs.OntoLaws.{payload-below, fine-below}
 use Rattle.reader.specs.Finds.{payloadOf}
 use Rattle.claims.specs.Pages.{Right, AllRight, Good, payloads}
 
@@ -27,7 +25,7 @@ payload-kept p q s o c same at = payload-below (c .offset) (c .len) o p q (at .w
 right-kept : (p q : List ℕ) (s o : ℕ) (cs : List Chunk) → take o q ≡ take o p → All (Placed s o) cs → AllRight p cs → AllRight q cs
 right-kept p q s o [] same at r = tt
 right-kept p q s o (c ∷ cs) same at r = (
-  record { some = r .0 .some; sum = ap (λ (x : List ℕ). eqb (published x) (c .crc)) (payload-kept p q s o c same (at .0)) ∙ r .0 .sum },
+  record { some = r .0 .some; sum = fine-below (c .offset) (c .len) (c .crc) o p q (at .0 .whole) same ∙ r .0 .sum },
   right-kept p q s o cs same (at .1) (r .1),
 )
 

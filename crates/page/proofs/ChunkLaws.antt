@@ -150,6 +150,12 @@ sum-fine page o len crc there s =
     let whole : length (payloadAt page o len) ≡ len = simp (length-take, length-drop) (omega arith) in
     rw (eq-eqb (length (payloadAt page o len)) len whole, eq-eqb (published (payloadAt page o len)) crc s)
 
+-- a payload that stands there whole is fine, under its own sum
+pub payload-fine : (page : List ℕ) (o : ℕ) (l : List ℕ) → payloadAt page o (length l) ≡ l → payloadFine page o (length l) (published l) ≡ true
+payload-fine page o l is =
+    let there = payloadAt page o (length l) in
+    rw (eq-eqb (length there) (length l) (ap length is), eq-eqb (published there) (published l) (ap published is))
+
 -- a chunk that passes has a good header and a payload that is fine
 pub checked-fine : (page : List ℕ) (o len crc next : ℕ) → checkedAt page o ≡ Chunk len crc next
     → (chunkAt page o ≡ Chunk len crc next) × (payloadFine page o len crc ≡ true)

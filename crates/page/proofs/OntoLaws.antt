@@ -8,7 +8,7 @@ use lib.ListN.{take, drop}
 use Rattle.types.specs.Build.{chunkHeaderSize}
 use Rattle.slices.specs.Patch.{patch}
 use Rattle.slices.proofs.PatchLaws.{take-patch-below}
-use Rattle.page.specs.Chunks.{chunkAt, payloadAt, checkedAt}
+use Rattle.page.specs.Chunks.{chunkAt, payloadAt, payloadFine, checkedAt}
 use Rattle.page.specs.Walks.{Chunk, Walked, walkFrom}
 use Rattle.page.specs.declared.chunk.Step.the-variants as step
 use Rattle.page.specs.declared.walk.Ending.the-variants.{EndAt, Corrupted}
@@ -68,6 +68,10 @@ walk-patched page o e at bytes h k = walk-onto page (patch at bytes page) o e h 
 
 pub payload-below : (o len e : ℕ) (p q : List ℕ) → o + chunkHeaderSize + len ≤ e → take e q ≡ take e p → payloadAt q o len ≡ payloadAt p o len
 payload-below o len e p q h a = part-below len (o + 8) e p q h a
+
+-- so it is all there, and its sum right, on both or on neither
+pub fine-below : (o len crc e : ℕ) (p q : List ℕ) → o + chunkHeaderSize + len ≤ e → take e q ≡ take e p → payloadFine q o len crc ≡ payloadFine p o len crc
+fine-below o len crc e p q h a = rw (payload-below o len e p q h a)
 
 -- a chunk's check looks at its own bytes alone
 pub checked-below : (o len crc next e : ℕ) (p q : List ℕ) → chunkAt p o ≡ step.Chunk len crc next → o + chunkHeaderSize + len ≤ e → take e q ≡ take e p
