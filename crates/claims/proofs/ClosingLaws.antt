@@ -15,7 +15,8 @@ use Rattle.types.proofs.TestLaws.{eq-or-ne}
 use Rattle.crc.specs.Register.{preset, updated, finished}
 use Rattle.flash.specs.Operations.{Op, store, opIf, made, applied}
 use Rattle.slices.specs.Patch.{patch}
-use Rattle.flash.proofs.PageLaws.{opAt, opBytes, made-patch}
+use Rattle.flash.specs.Covers.{opAt, opBytes}
+use Rattle.flash.proofs.PageLaws.{made-patch}
 use Rattle.slices.proofs.PatchLaws.{patch-join, take-patch-below}
 use Rattle.flash.proofs.OperationLaws.{applied-append}
 use Rattle.page.specs.Chunks.{chunkHeader, alignUp}

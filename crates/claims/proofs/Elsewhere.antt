@@ -13,7 +13,8 @@ use Rattle.types.specs.declared.refusal.Verdict.{Verdict}
 use Rattle.types.specs.declared.refusal.Verdict.the-variants.{Fine, Refused}
 use Rattle.flash.specs.Geometry.{pageStart, pageOf}
 use Rattle.flash.specs.Operations.{Op, made, applied, spent, allowed}
-use Rattle.flash.proofs.PageLaws.{opAt, opBytes, made-patch, length-applied, other-page}
+use Rattle.flash.specs.Covers.{opAt, opBytes}
+use Rattle.flash.proofs.PageLaws.{made-patch, length-applied, other-page}
 use Rattle.slices.proofs.PatchLaws.{patch-below, patch-above}
 use Rattle.writer.specs.Duties.{Duty, writeDuty, commitDuty, handsBack, leaves, makes}
 use Rattle.writer.specs.Openings.{appended}

@@ -28,7 +28,6 @@ pub mod OneTypes
 pub mod OneWriter
 pub mod OutcomeLaws
 pub mod PageCutLaws
-pub mod RedoLaws
 pub mod Retried
 pub mod StarredNumbers
 pub mod WorkedCalls

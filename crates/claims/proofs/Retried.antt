@@ -1,5 +1,5 @@
 -- A writer's call that was refused, made again with what it handed back. Assumes nothing.
-use mathlib.Core.Path.{_≡_, refl, sym, ap, _∙_}
+use mathlib.Core.Path.{_≡_, refl, ap, ap₂, _∙_}
 use mathlib.Core.Bool.{Bool, true, false, cond, _&&_}
 use mathlib.Core.List.{List}
 use Prim.Native.Nat.{ℕ, _-_, _≤_, _<_}
@@ -14,15 +14,16 @@ use Rattle.types.specs.declared.refusal.Verdict.the-variants as verdict
 use Rattle.flash.specs.Geometry.{flashFine, hasPage, pageStart}
 use Rattle.flash.specs.Operations.{Op}
 use Rattle.page.specs.Headers.{headerFine}
-use Rattle.writer.specs.Duties.{Duty, handsBack, leaves}
-use Rattle.writer.specs.Outcomes.{ended, endedFlash}
+use Rattle.writer.specs.Duties.{Duty, writeDuty, handsBack, leaves}
+use Rattle.writer.specs.Outcomes.{ended, endedFlash, wrote}
 use Rattle.writer.specs.States.{inRange}
 use Rattle.writer.specs.Verdicts.{writerVerdict, headingVerdict}
+use Rattle.writer.specs.Writes.{takes}
 use Rattle.writer.specs.declared.answers.Outcome.the-variants.{Done, Refused}
 use Rattle.writer.specs.declared.page_writer.PageWriter.{PageWriter}
-use Rattle.claims.specs.Sequences.{AddCall, writes, commits, heads, dutyOf, Left, called, calledAgain}
+use Rattle.claims.specs.Sequences.{AddCall, writes, commits, heads, dutyOf, WriterLeft, called, calledAgain}
 use Rattle.claims.proofs.Elsewhere.{elsewhere}
-use Rattle.claims.proofs.RedoLaws.{applied-again}
+use Rattle.flash.proofs.RedoLaws.{applied-again}
 
 -- what a call owes depends on the flash's length alone
 duty-same : (e : ℕ) (call : AddCall) (xs ys : List ℕ) (w : PageWriter) → length ys ≡ length xs → dutyOf e call ys w ≡ dutyOf e call xs w
@@ -118,3 +119,11 @@ module _ (e : ℕ) (call : AddCall) (w : PageWriter) (left : ℕ) (xs : List ℕ
       again-owes why stores a
       ∙ ap (λ (v : Verdict). record { ended = ended v (duty .ops) (duty .next) w stores; flash = endedFlash v (duty .ops) w stores (endedFlash v (duty .ops) w left xs) })
       (checks-by (duty .ops) (duty .next) w left why (duty .verdict) a n)
+
+-- and a write answers how many bytes it takes
+pub retried-write : (e : ℕ) (bytes : List ℕ) (w : PageWriter) (left : ℕ) (xs : List ℕ) (stores : ℕ) → left ≤ stores → called e (writes bytes) w left xs .ended .answer ≡ Refused Cut
+    → wrote (takes (length bytes) (called e (writes bytes) w left xs .ended .writer)) (calledAgain e (writes bytes) (called e (writes bytes) w left xs) stores .ended)
+    ≡ wrote (takes (length bytes) w) (called e (writes bytes) w stores xs .ended)
+retried-write e bytes w left xs stores h a =
+    let d = writeDuty e xs w bytes in
+    ap₂ (λ (v : PageWriter) (l : WriterLeft). wrote (takes (length bytes) v) (l .ended)) (back-by (d .ops) (d .next) w left Cut (d .verdict) a) (retried e (writes bytes) w left xs stores h a)

@@ -1,7 +1,7 @@
 -- Calls of a writer, one after the other: two chunks and a page header between them, each store of a chunk on erased bytes. And a commit
 -- that is cut and made again. Assumes nothing.
-use mathlib.Core.Bool.{xor}
-use mathlib.Core.Path.{_≡_, refl, ap, _∙_}
+use mathlib.Core.Bool.{false}
+use mathlib.Core.Path.{_≡_, refl, ap, subst, _∙_}
 use mathlib.Core.List.{List, [], _∷_, map}
 use Prim.Native.Nat.{ℕ, _+_}
 use native.Mathlib.Omega.{arith}
@@ -9,8 +9,6 @@ use lib.ListN.{length, getD}
 use Rattle.types.specs.Build.{eraseValue}
 use Rattle.types.specs.Bytes.{word, bytesOf}
 use Rattle.types.specs.declared.refusal.Refusal.the-variants.{Cut, BadHeader}
-use Rattle.crc.specs.Published as crc
-use Rattle.crc.specs.Register.{tap, stepped, steps, taken, updated}
 use Rattle.slices.specs.Patch.{over, patch, blank}
 use Rattle.page.specs.Chunks.{chunkHeader, chunkAt}
 use Rattle.page.specs.Headers.{pageHeader}
@@ -19,14 +17,14 @@ use Rattle.writer.specs.Commits.{chunkOps}
 use Rattle.writer.specs.Headings.{headerOps}
 use Rattle.writer.specs.Openings.{appended}
 use Rattle.writer.specs.Starred.{Place, placeOf}
-use Rattle.writer.specs.States.{inRange, newWriter}
+use Rattle.writer.specs.States.{fresh, inRange, newWriter}
 use Rattle.writer.specs.Verdicts.{writerVerdict, headingVerdict, openVerdict}
 use Rattle.writer.specs.Writes.{groupOf, bufferOf, payloadOps, takingOps, written}
 use Rattle.writer.specs.declared.answers.Opened.{Opened}
 use Rattle.writer.specs.declared.answers.Opening.the-variants.{Open}
 use Rattle.writer.specs.declared.answers.Outcome.the-variants.{Done, Refused}
 use Rattle.writer.specs.declared.page_writer.PageWriter.{PageWriter}
-use Rattle.claims.specs.Sequences.{AddCall, commits, heads, Left, called, calledAgain, Making, callsMake, callsLeave, allOps, AllLand}
+use Rattle.claims.specs.Sequences.{AddCall, commits, heads, WriterLeft, called, calledAgain, Making, callsMake, callsLeave, allOps, AllLand}
 use Rattle.claims.specs.Worked.{workedMagic, workedPage, headedFlash, twoChunks}
 use Rattle.claims.proofs.CountMade.{counts-made}
 use Rattle.claims.proofs.ErasedLaws.{writes-on-erased}
@@ -35,15 +33,18 @@ use Rattle.claims.proofs.Retried.{retried, refused-again}
 abbrev reopened : Opened
 reopened = appended eraseValue headedFlash workedPage 0 newWriter 9
 
-reopens : reopened .answer ≡ Open
-unfolding word bytesOf crc.bits crc.number crc.message crc.among crc.terms crc.generator xor crc.plus crc.divided crc.dividend crc.remainder crc.published blank pageHeader
-    headedFlash chunkAt walk walkFrom allErased appended openVerdict
+-- behind the page header
+abbrev writer : PageWriter
+writer = fresh false workedPage 0 12
+
+reopens : reopened ≡ record { answer = Open; writer = writer; left = 9 }
+unfolding word bytesOf blank pageHeader headedFlash chunkAt walk walkFrom allErased appended openVerdict
 reopens = refl
 
 -- ---- two chunks
 
 abbrev calls : List Making
-calls = callsMake eraseValue twoChunks (reopened .writer) (reopened .left) headedFlash
+calls = callsMake eraseValue twoChunks writer 9 headedFlash
 
 abbrev place : ℕ → ℕ → Place
 place from size = record { from = from; size = size }
@@ -51,45 +52,37 @@ place from size = record { from = from; size = size }
 -- call by call: the payload and then the header, of the chunk at 12 and of the one at 24, and the page header at 0 between them
 pub worked-stores : map (λ (m : Making). map placeOf (m .ops)) calls
     ≡ [] ∷ (place 20 4 ∷ place 12 8 ∷ []) ∷ (place 0 12 ∷ []) ∷ [] ∷ (place 32 4 ∷ place 24 8 ∷ []) ∷ []
-unfolding word bytesOf crc.bits crc.number crc.message crc.among crc.terms crc.generator xor crc.plus crc.divided crc.dividend crc.remainder crc.published tap stepped steps taken
-    updated over patch blank chunkHeader pageHeader headedFlash chunkAt walk walkFrom allErased chunkOps headerOps appended inRange writerVerdict headingVerdict openVerdict
-    groupOf bufferOf payloadOps takingOps placeOf callsMake
+unfolding bytesOf over patch blank pageHeader headedFlash inRange writerVerdict headingVerdict chunkHeader chunkOps headerOps groupOf bufferOf payloadOps takingOps placeOf callsMake
 worked-stores = refl
 
 pub worked-on-erased : AllLand eraseValue calls
-worked-on-erased = writes-on-erased eraseValue headedFlash workedPage 0 newWriter 9 twoChunks reopens
+worked-on-erased =
+    subst (λ (o : Opened). AllLand eraseValue (callsMake eraseValue twoChunks (o .writer) (o .left) headedFlash)) reopens
+    (writes-on-erased eraseValue headedFlash workedPage 0 newWriter 9 twoChunks (ap (λ (o : Opened). o .answer) reopens))
 
 -- nine stores were allowed and five were made, so four are left
-pub worked-count : (length (allOps calls) ≡ 5) × (callsLeave eraseValue twoChunks (reopened .writer) (reopened .left) headedFlash ≡ 4)
-unfolding word bytesOf crc.bits crc.number crc.message crc.among crc.terms crc.generator xor crc.plus crc.divided crc.dividend crc.remainder crc.published tap stepped steps taken
-    updated over patch blank chunkHeader pageHeader headedFlash chunkAt walk walkFrom allErased chunkOps headerOps appended inRange writerVerdict headingVerdict openVerdict
-    groupOf bufferOf payloadOps takingOps callsMake callsLeave
+pub worked-count : (length (allOps calls) ≡ 5) × (callsLeave eraseValue twoChunks writer 9 headedFlash ≡ 4)
+unfolding bytesOf over patch blank pageHeader headedFlash inRange writerVerdict headingVerdict chunkHeader chunkOps headerOps groupOf bufferOf payloadOps takingOps callsMake callsLeave
 worked-count = (refl, refl)
 
 pub worked-counted : 4 + length (allOps calls) ≡ 9
-unfolding word bytesOf crc.bits crc.number crc.message crc.among crc.terms crc.generator xor crc.plus crc.divided crc.dividend crc.remainder crc.published tap stepped steps taken
-    updated over patch blank chunkHeader pageHeader headedFlash chunkAt walk walkFrom allErased chunkOps headerOps appended inRange writerVerdict headingVerdict openVerdict
-    groupOf bufferOf payloadOps takingOps callsLeave
-worked-counted = counts-made eraseValue twoChunks (reopened .writer) (reopened .left) headedFlash
+unfolding bytesOf over patch blank pageHeader headedFlash inRange writerVerdict headingVerdict chunkHeader chunkOps headerOps groupOf bufferOf payloadOps takingOps callsLeave
+worked-counted = counts-made eraseValue twoChunks writer 9 headedFlash
 
 -- ---- a commit of one byte that is cut after its first store
 
 abbrev pending : PageWriter
-pending = written (reopened .writer) (6 ∷ [])
+pending = written writer (6 ∷ [])
 
-abbrev wasCut : Left
+abbrev wasCut : WriterLeft
 wasCut = called eraseValue commits pending 1 headedFlash
 
 cut-there : wasCut .ended .answer ≡ Refused Cut
-unfolding word bytesOf crc.bits crc.number crc.message crc.among crc.terms crc.generator xor crc.plus crc.divided crc.dividend crc.remainder crc.published tap stepped steps taken
-    updated over patch blank chunkHeader pageHeader headedFlash chunkAt walk walkFrom allErased chunkOps headerOps appended inRange writerVerdict headingVerdict openVerdict
-    groupOf bufferOf payloadOps takingOps
+unfolding bytesOf over patch blank pageHeader headedFlash inRange writerVerdict chunkHeader chunkOps groupOf bufferOf
 cut-there = refl
 
 done-at-once : called eraseValue commits pending 2 headedFlash .ended .answer ≡ Done
-unfolding word bytesOf crc.bits crc.number crc.message crc.among crc.terms crc.generator xor crc.plus crc.divided crc.dividend crc.remainder crc.published tap stepped steps taken
-    updated over patch blank chunkHeader pageHeader headedFlash chunkAt walk walkFrom allErased chunkOps headerOps appended inRange writerVerdict headingVerdict openVerdict
-    groupOf bufferOf payloadOps takingOps
+unfolding bytesOf over patch blank pageHeader headedFlash inRange writerVerdict chunkHeader chunkOps groupOf bufferOf
 done-at-once = refl
 
 -- made again with two stores it is done, and the flash is that of a commit with two stores from the start
@@ -97,19 +90,22 @@ pub worked-retried : (calledAgain eraseValue commits wasCut 2 .ended .answer ≡
     × (calledAgain eraseValue commits wasCut 2 .flash ≡ called eraseValue commits pending 2 headedFlash .flash)
 worked-retried =
     let same = retried eraseValue commits pending 1 headedFlash 2 (omega arith) cut-there in
-    (ap (λ (l : Left). l .ended .answer) same ∙ done-at-once, ap (λ (l : Left). l .flash) same)
+    (ap (λ (l : WriterLeft). l .ended .answer) same ∙ done-at-once, ap (λ (l : WriterLeft). l .flash) same)
+
+-- byte 24 lies behind both stores, and is as it was
+pub worked-uncovered : getD (called eraseValue commits pending 2 headedFlash .flash) 24 0 ≡ getD headedFlash 24 0
+unfolding bytesOf over patch blank pageHeader headedFlash inRange writerVerdict chunkHeader chunkOps groupOf bufferOf
+worked-uncovered = refl
 
 -- a page header of four bytes, where the page was opened for none, is refused by 6, and again
 abbrev tooLong : AddCall
 tooLong = heads workedMagic (1 ∷ 2 ∷ 3 ∷ 4 ∷ [])
 
 refused-there : called eraseValue tooLong pending 1 headedFlash .ended .answer ≡ Refused BadHeader
-unfolding word bytesOf crc.bits crc.number crc.message crc.among crc.terms crc.generator xor crc.plus crc.divided crc.dividend crc.remainder crc.published tap stepped steps taken
-    updated over patch blank chunkHeader pageHeader headedFlash chunkAt walk walkFrom allErased chunkOps headerOps appended inRange writerVerdict headingVerdict openVerdict
-    groupOf bufferOf payloadOps takingOps
+unfolding bytesOf blank pageHeader headedFlash headingVerdict
 refused-there = refl
 
 pub worked-refused : calledAgain eraseValue tooLong (called eraseValue tooLong pending 1 headedFlash) 0 .ended .answer ≡ Refused BadHeader
 worked-refused =
-    ap (λ (l : Left). l .ended .answer)
+    ap (λ (l : WriterLeft). l .ended .answer)
     (refused-again eraseValue tooLong pending 1 headedFlash BadHeader 0 refused-there (λ (e : BadHeader ≡ Cut). let z : _≡_ {A = ℕ} 0 1 = cc in omega arith))

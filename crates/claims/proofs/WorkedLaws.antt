@@ -8,19 +8,18 @@ use native.Mathlib.Omega.{arith}
 use lib.ListN.{length, getD}
 use Rattle.types.specs.Build.{eraseValue, pageSize}
 use Rattle.types.specs.Bytes.{Bytes, word, bytesOf}
-use Rattle.crc.specs.Published as crc
-use Rattle.crc.specs.Register.{tap, stepped, steps, taken, updated}
+use Rattle.crc.specs.Published.{bits, number, message, among, terms, generator, plus, divided, dividend, remainder, published}
 use Rattle.flash.specs.Geometry.{flashFine, hasPage, pageOf}
-use Rattle.slices.specs.Patch.{over, patch, blank}
+use Rattle.slices.specs.Patch.{patch, blank}
 use Rattle.page.specs.Chunks.{chunkHeader, chunkAt}
 use Rattle.page.specs.Headers.{headerOf, pageHeader, pageHeaderFine}
 use Rattle.page.specs.Walks.{walk, walkFrom, allErased}
 use Rattle.reader.specs.Finds.{found, foundWith, joined}
 use Rattle.writer.specs.Commits.{chunkOps}
 use Rattle.writer.specs.Openings.{appended}
-use Rattle.writer.specs.States.{inRange, newWriter}
-use Rattle.writer.specs.Verdicts.{writerVerdict, openVerdict}
-use Rattle.writer.specs.Writes.{groupOf, bufferOf, payloadOps, takingOps}
+use Rattle.writer.specs.States.{newWriter}
+use Rattle.writer.specs.Verdicts.{openVerdict}
+use Rattle.writer.specs.Writes.{payloadOps, takingOps}
 use Rattle.claims.specs.Additions.{added, addition, additionOps, addedPayload}
 use Rattle.claims.specs.Pages.{AllBytes, Good, payloads, finds, handsOut, Opens}
 use Rattle.claims.specs.Worked.{workedMagic, workedPage, chunkOfOne, workedFlash, headedFlash, higherFlash, twoPages}
@@ -39,21 +38,17 @@ six-bytes = (byte, tt)
     byte (suc i) = omega arith
 
 worked-shape : (flashFine (length workedFlash) ≡ true) × (hasPage (length workedFlash) 0 ≡ true)
-unfolding word bytesOf crc.bits crc.number crc.message crc.among crc.terms crc.generator xor crc.plus crc.divided crc.dividend crc.remainder crc.published blank chunkHeader
-    pageHeader chunkOfOne workedFlash
+unfolding bytesOf blank chunkHeader pageHeader chunkOfOne workedFlash
 worked-shape = (refl, refl)
 
 worked-good : Good workedMagic 0 0 24 (pageOf 0 workedFlash)
-unfolding word bytesOf crc.bits crc.number crc.message crc.among crc.terms crc.generator xor crc.plus crc.divided crc.dividend crc.remainder crc.published blank chunkHeader
-    pageHeader chunkOfOne workedFlash pageHeaderFine chunkAt walk walkFrom
+unfolding word bytesOf bits number message among terms generator xor plus divided dividend remainder published blank chunkHeader pageHeader chunkOfOne workedFlash pageHeaderFine chunkAt walk walkFrom
 worked-good = record { whole = refl; length-fine = refl; header = refl; ends = refl; chunks = (record { some = omega arith; sum = refl }, tt) }
 
 -- what is found in all, by computation
 worked-payloads : (payloads (pageOf 0 workedFlash) 0 ++ addedPayload eraseValue workedFlash workedPage 0 newWriter 1 six ≡ (5 ∷ []) ∷ [])
     × (payloads (pageOf 0 workedFlash) 0 ++ addedPayload eraseValue workedFlash workedPage 0 newWriter 2 six ≡ (5 ∷ []) ∷ (6 ∷ []) ∷ [])
-unfolding word bytesOf crc.bits crc.number crc.message crc.among crc.terms crc.generator xor crc.plus crc.divided crc.dividend crc.remainder crc.published tap stepped steps taken
-    updated over patch blank chunkHeader pageHeader chunkOfOne workedFlash chunkAt walk walkFrom allErased chunkOps appended inRange writerVerdict openVerdict groupOf bufferOf
-    payloadOps takingOps addition additionOps
+unfolding word bytesOf patch blank chunkHeader pageHeader chunkOfOne workedFlash chunkAt walk walkFrom allErased chunkOps appended openVerdict payloadOps takingOps addition additionOps
 worked-payloads = (refl, refl)
 
 -- after one store of two the old byte is found, after both the two of them
@@ -80,16 +75,15 @@ worked-rooms =
 -- ---- a page with a higher header
 
 higher-shape : (flashFine (length higherFlash) ≡ true) × (hasPage (length higherFlash) 0 ≡ true)
-unfolding word bytesOf crc.bits crc.number crc.message crc.among crc.terms crc.generator xor crc.plus crc.divided crc.dividend crc.remainder crc.published blank pageHeader higherFlash
+unfolding bytesOf blank pageHeader higherFlash
 higher-shape = (refl, refl)
 
 higher-good : Good workedMagic 0 4 16 (pageOf 0 higherFlash)
-unfolding word bytesOf crc.bits crc.number crc.message crc.among crc.terms crc.generator xor crc.plus crc.divided crc.dividend crc.remainder crc.published blank pageHeader
-    higherFlash pageHeaderFine chunkAt walk walkFrom
+unfolding word bytesOf bits number message among terms generator xor plus divided dividend remainder published blank pageHeader higherFlash pageHeaderFine chunkAt walk walkFrom
 higher-good = record { whole = refl; length-fine = refl; header = refl; ends = refl; chunks = tt }
 
 higher-header : headerOf (pageOf 0 higherFlash) 4 ≡ 1 ∷ 2 ∷ 3 ∷ 4 ∷ []
-unfolding word bytesOf crc.bits crc.number crc.message crc.among crc.terms crc.generator xor crc.plus crc.divided crc.dividend crc.remainder crc.published blank pageHeader higherFlash
+unfolding bytesOf blank pageHeader higherFlash
 higher-header = refl
 
 -- after one store of an addition open hands out its four bytes
@@ -101,7 +95,7 @@ worked-header =
 -- ---- a second page
 
 second-page : pageOf 1 twoPages ≡ blank 9 pageSize
-unfolding word bytesOf crc.bits crc.number crc.message crc.among crc.terms crc.generator xor crc.plus crc.divided crc.dividend crc.remainder crc.published blank pageHeader headedFlash twoPages
+unfolding bytesOf blank pageHeader headedFlash twoPages
 second-page = refl
 
 -- a chunk is added to the first page; all of the second is as it was

@@ -5,7 +5,7 @@ use Prim.Native.Nat.{ℕ}
 use Rattle.flash.specs.Geometry.{pageOf}
 use Rattle.flash.specs.Operations.{Op}
 use Rattle.writer.specs.Duties.{Duty, writeDuty, commitDuty, headingDuty, handsBack, leaves, makes}
-use Rattle.writer.proofs.StoreLaws.{Lands}
+use Rattle.writer.specs.Landings.{Lands}
 use Rattle.writer.specs.declared.answers.Ended.{Ended}
 use Rattle.writer.specs.declared.page_writer.PageWriter.{PageWriter}
 
@@ -24,15 +24,16 @@ dutyOf e (heads magic header) flash w = headingDuty e flash w magic header
 -- ---- one call
 
 -- what it leaves: the answer, the writer and the stores left; the flash
-pub record Left : Type 0 where
+pub record WriterLeft : Type 0 where
   pub ended : Ended
   pub flash : List ℕ
 
-abbrev pub called : ℕ → AddCall → PageWriter → ℕ → List ℕ → Left
+-- a call of the writer w, where `left` stores may be made
+abbrev pub called : ℕ → AddCall → PageWriter → ℕ → List ℕ → WriterLeft
 called e call w left xs = record { ended = handsBack (dutyOf e call xs w) w left; flash = leaves (dutyOf e call xs w) w left xs }
 
 -- the call made again with what it left, where `stores` may be made now
-abbrev pub calledAgain : ℕ → AddCall → Left → ℕ → Left
+abbrev pub calledAgain : ℕ → AddCall → WriterLeft → ℕ → WriterLeft
 calledAgain e call l stores = called e call (l .ended .writer) stores (l .flash)
 
 -- ---- all of them
@@ -43,6 +44,7 @@ pub record Making : Type 0 where
   pub page : List ℕ
   pub ops : List Op
 
+-- what calls make, call by call
 unfoldable pub callsMake : ℕ → List AddCall → PageWriter → ℕ → List ℕ → List Making
 callsMake e [] w left xs = []
 callsMake e (call ∷ calls) w left xs =
@@ -68,6 +70,7 @@ LandsBy e (writes bytes) ops page = Lands e ops page
 LandsBy e commits ops page = Lands e ops page
 LandsBy e (heads magic header) ops page = Unit
 
+-- so does each of these
 abbrev pub AllLand : ℕ → List Making → Type 0
 AllLand e [] = Unit
 AllLand e (m ∷ ms) = LandsBy e (m .call) (m .ops) (m .page) × AllLand e ms

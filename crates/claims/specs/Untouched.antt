@@ -6,7 +6,7 @@ use Prim.Native.Nat.{ℕ, _+_, _≤_, _<_}
 use lib.ListN.{length, getD}
 use Rattle.flash.specs.Geometry.{pageStart, pageOf}
 use Rattle.flash.specs.Operations.{Op}
-use Rattle.flash.proofs.PageLaws.{opAt, opBytes}
+use Rattle.flash.specs.Covers.{opAt, opBytes}
 
 -- byte i of the flash lies before or behind what each operation puts on the page that starts at base
 abbrev pub Uncovered : ℕ → List Op → ℕ → Type 0

@@ -3,3 +3,4 @@ pub mod LentLaws
 pub mod LiesOnLaws
 pub mod OperationLaws
 pub mod PageLaws
+pub mod RedoLaws

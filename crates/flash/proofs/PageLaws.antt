@@ -9,20 +9,12 @@ use native.Mathlib.Omega.{arith}
 use lib.ListN.{length, take, drop, getD, length-take}
 use Rattle.types.specs.Build.{pageSize}
 use Rattle.types.proofs.TestLaws.{le-or-lt}
+use Rattle.flash.specs.Covers.{opAt, opBytes}
 use Rattle.flash.specs.Geometry.{pageStart, pageFrom, pageOf}
 use Rattle.flash.specs.Operations.{Op, erase, store, made, applied}
 use Rattle.slices.specs.Patch.{patch, blank}
 use Rattle.flash.proofs.GeometryLaws.{length-page}
 use Rattle.slices.proofs.PatchLaws.{length-patch, patch-none, patch-all, patch-in, patch-below, patch-above, take-patch, drop-patch, take-patch-below, drop-patch-above, length-blank}
-
--- where an operation puts its bytes, and which
-abbrev pub opAt : Op → ℕ
-opAt (erase e) = 0
-opAt (store at bytes) = at
-
-abbrev pub opBytes : Op → List ℕ
-opBytes (erase e) = blank e pageSize
-opBytes (store at bytes) = take (pageSize - at) bytes
 
 -- an operation is one patch within its page
 pub made-patch : (base : ℕ) (op : Op) (xs : List ℕ) → made base op xs ≡ patch (base + opAt op) (opBytes op) xs

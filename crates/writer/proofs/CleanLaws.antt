@@ -31,6 +31,7 @@ use Rattle.page.proofs.ErasedLaws.{erased-blank}
 use Rattle.page.proofs.PutLaws.{length-chunkHeader, length-pageHeader}
 use Rattle.writer.specs.Commits.{groupAt, restOps, sealOp, chunkOps, nextChunk, commitOps, committed}
 use Rattle.writer.specs.Headings.{headerOps, headed}
+use Rattle.writer.specs.Landings.{Erased, Lands}
 use Rattle.writer.specs.Openings.{openedAfter, appendedAt, appended}
 use Rattle.writer.specs.States.{firstChunk, fresh}
 use Rattle.writer.specs.Verdicts.{headingVerdict, openVerdict}
@@ -39,7 +40,7 @@ use Rattle.writer.specs.declared.answers.Opening.the-variants.{Open}
 use Rattle.writer.specs.declared.page_writer.PageWriter.{PageWriter}
 use Rattle.writer.proofs.CheckLaws.{heading-passed, sound}
 use Rattle.writer.proofs.PlaceLaws.{taking-unarmed, length-bufferOf, payload-rising, rest-rising}
-use Rattle.writer.proofs.StoreLaws.{Rising, Erased, Lands, lands-append, rising-lands, erased-below, erased-behind}
+use Rattle.writer.proofs.StoreLaws.{Rising, lands-append, rising-lands, erased-below, erased-behind}
 
 -- on page p the chunk's header is still to come, and nothing is stored from the group that is not finished on
 pub record Clean (e : ℕ) (w : PageWriter) (p : List ℕ) : Type 0 where

@@ -12,6 +12,7 @@ use Rattle.flash.specs.Operations.{Op, erase, store, opIf, made, applied}
 use Rattle.slices.specs.Patch.{patch}
 use Rattle.slices.proofs.PatchLaws.{patch-above, take-patch-below, drop-patch-above}
 use Rattle.page.proofs.BelowLaws.{take-below, drop-above}
+use Rattle.writer.specs.Landings.{Erased, Lands}
 
 -- ---- stores one behind the other, from a on and no further than b
 
@@ -72,16 +73,7 @@ rising-behind a b (store at bytes ∷ ops) p r =
     ∙ ap (drop b) (made-store at bytes p)
     ∙ drop-patch-above b at (take (4096 - at) bytes) p (let l = cut-length (4096 - at) bytes in omega arith)
 
--- ---- bytes that read as erased, where e is the erase value; past the page's end all do
-
-abbrev pub Erased : ℕ → ℕ → ℕ → List ℕ → Type 0
-Erased e a b p = (i : ℕ) → a ≤ i → i < b → getD p i e ≡ e
-
--- each store, when it is made, lies on erased bytes; an erase does not
-abbrev pub Lands : ℕ → List Op → List ℕ → Type 0
-Lands e [] p = Unit
-Lands e (erase v ∷ ops) p = ⊥
-Lands e (store at bytes ∷ ops) p = Erased e at (at + length bytes) p × Lands e ops (made 0 (store at bytes) p)
+-- ---- bytes that read as erased, and stores on them
 
 pub lands-append : (e : ℕ) (xs ys : List Op) (p : List ℕ) → Lands e xs p → Lands e ys (applied 0 xs p) → Lands e (xs ++ ys) p
 lands-append e [] ys p l m = m

@@ -3,6 +3,7 @@ pub mod Calls
 pub mod Commits
 pub mod Duties
 pub mod Headings
+pub mod Landings
 pub mod Openings
 pub mod Outcomes
 pub mod Starred

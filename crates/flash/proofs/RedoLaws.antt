@@ -7,9 +7,10 @@ use native.Mathlib.Omega.{arith}
 use lib.ListN.{length, take, drop, getD, take-append-drop}
 use lib.Seq.{take-take}
 use Rattle.types.proofs.TestLaws.{le-or-lt}
+use Rattle.flash.specs.Covers.{opAt, opBytes}
 use Rattle.flash.specs.Operations.{Op, made, applied}
 use Rattle.flash.proofs.OperationLaws.{applied-append}
-use Rattle.flash.proofs.PageLaws.{opAt, opBytes, made-patch, made-in, length-made, length-applied}
+use Rattle.flash.proofs.PageLaws.{made-patch, made-in, length-made, length-applied}
 use Rattle.slices.proofs.PatchLaws.{patch-below, patch-above}
 
 -- lists of one length with the same bytes
