@@ -1,7 +1,8 @@
 """Planted slips, as tools/slips and tools/audit read them: the must-fail edits, and the functions of a source file.
 
 An edit file holds one slip or several. A slip begins with its heading, `# slip NAME in PLACE`, which may go on with
-`: what it shows`. Its `file:`, `old:` and `new:` lines follow, as rt reads them: a `file:` line holds for the pairs after it.
+`: what it shows`. Its `file:`, `old:` and `new:` lines follow, as rt reads them: a `file:` line holds for the pairs after it. A slip that
+stands alone gives its file its name, NAME.edit; the others are in files together_N.edit.
 """
 import re
 from functools import lru_cache
@@ -139,6 +140,8 @@ def read_edits(crates, problem):
     files = {edit: slips_of(edit, problem) for edit in all_edits() if edit.parts[-3] in crates}
     names = {}
     for edit, slips in files.items():
+        if slips and not edit.stem.startswith("together_") and [slip.name for slip in slips] != [edit.stem]:
+            problem(f"{edit}", "has the name of its one slip, or is a file together_N.edit")
         for at, slip in enumerate(slips):
             if names.setdefault(str(slip), slip) is not slip:
                 problem(f"{slip}", f"its name stands in {names[str(slip)].edit.name} and in {edit.name}")
