@@ -44,7 +44,8 @@ fn is_entry(answer: NextAnswer) -> bool
 // One call of next, without an upper bound.
 fn merge_one(m: Merging, runs: &[u8], ends: &[usize], key: &mut [u8], value: &mut [u8]) -> Merging
     ensures answers { λ r. ⌜ r ≡ mergeOne (now (runs .entry)) (now (ends .entry)) (stateOf m (now (key .entry)) (now (value .entry))) .merging ⌝ }
-    ensures bytes { λ _. ⌜ (now (key .exit) ≡ mergeOne (now (runs .entry)) (now (ends .entry)) (stateOf m (now (key .entry)) (now (value .entry))) .key) × (now (value .exit) ≡ mergeOne (now (runs .entry)) (now (ends .entry)) (stateOf m (now (key .entry)) (now (value .entry))) .value) ⌝ }
+    ensures bytes { λ _. ⌜ (now (key .exit) ≡ mergeOne (now (runs .entry)) (now (ends .entry)) (stateOf m (now (key .entry)) (now (value .entry))) .key)
+        × (now (value .exit) ≡ mergeOne (now (runs .entry)) (now (ends .entry)) (stateOf m (now (key .entry)) (now (value .entry))) .value) ⌝ }
 {
     let c = m.cursor;
     let moved = c.next(runs, ends, Bound::Unbounded, &runs[..0], key, value);
@@ -82,7 +83,8 @@ pub extern "C" fn puffcradle_merge(
     value: &mut [u8],
 ) -> u64
     ensures answers { λ r. ⌜ r ≡ mergeAll most (now (runs .entry)) (now (ends .entry)) (now (key .entry)) (now (value .entry)) .merging .sum ⌝ }
-    ensures bytes { λ _. ⌜ (now (key .exit) ≡ mergeAll most (now (runs .entry)) (now (ends .entry)) (now (key .entry)) (now (value .entry)) .key) × (now (value .exit) ≡ mergeAll most (now (runs .entry)) (now (ends .entry)) (now (key .entry)) (now (value .entry)) .value) ⌝ }
+    ensures bytes { λ _. ⌜ (now (key .exit) ≡ mergeAll most (now (runs .entry)) (now (ends .entry)) (now (key .entry)) (now (value .entry)) .key)
+        × (now (value .exit) ≡ mergeAll most (now (runs .entry)) (now (ends .entry)) (now (key .entry)) (now (value .entry)) .value) ⌝ }
 {
     let mut m = begun(runs, ends);
     let mut left = most;

@@ -1,6 +1,6 @@
 -- No call changes a byte of another page, nor any byte that none of its operations covers, nor the flash's length. The calls of a
 -- writer that store are write, commit and write_header, each a duty that leaves the flash as `leaves` says; the flash's own store_if
--- and erase_if leave it as `allowed` says. No other call is lent the flash to change it. So a whole addition and any history of a page
+-- and erase_if leave it as `allowedOn` says. No other call is lent the flash to change it. So a whole addition and any history of a page
 -- leave every other page as it was. Assumes nothing.
 use mathlib.Core.Path.{_≡_, refl, ap, subst, _∙_}
 use mathlib.Core.Bool.{Bool, true, false, cond}
@@ -12,7 +12,7 @@ use Rattle.types.specs.declared.page_id.PageID.{PageID}
 use Rattle.types.specs.declared.refusal.Verdict.{Verdict}
 use Rattle.types.specs.declared.refusal.Verdict.the-variants.{Fine, Refused}
 use Rattle.flash.specs.Geometry.{pageStart, pageOf}
-use Rattle.flash.specs.Operations.{Op, made, applied, spent, allowed}
+use Rattle.flash.specs.Operations.{Op, made, applied, spent, allowed, allLieOn, allowedOn}
 use Rattle.flash.specs.Covers.{opAt, opBytes}
 use Rattle.flash.proofs.PageLaws.{made-patch, length-applied, other-page}
 use Rattle.slices.proofs.PatchLaws.{patch-below, patch-above}
@@ -40,12 +40,20 @@ applied-uncovered : (base : ℕ) (ops : List Op) (xs : List ℕ) (i d : ℕ) →
 applied-uncovered base [] xs i d u = refl
 applied-uncovered base (op ∷ ops) xs i d u = applied-uncovered base ops (made base op xs) i d (u .1) ∙ made-uncovered base op xs i d (u .0)
 
--- of store_if and erase_if, and of any list of operations
+-- of any list of operations
 pub operations-elsewhere : (p left : ℕ) (ops : List Op) (xs : List ℕ) → Elsewhere p (take left ops) xs (allowed (pageStart p) left ops xs)
 operations-elsewhere p left ops xs = record {
   others = record { other-pages = λ q other. other-page p q (take left ops) xs other; long = length-applied (pageStart p) (take left ops) xs };
   uncovered = λ i d u. applied-uncovered (pageStart p) (take left ops) xs i d u;
 }
+
+-- of store_if and erase_if
+pub asked-elsewhere : (p left : ℕ) (ops : List Op) (xs : List ℕ) → Elsewhere p (take left ops) xs (allowedOn p left ops xs)
+asked-elsewhere p left ops xs = by (allLieOn (length xs) p ops)
+  where
+    by : (lie : Bool) → Elsewhere p (take left ops) xs (cond lie (allowed (pageStart p) left ops xs) xs)
+    by true = operations-elsewhere p left ops xs
+    by false = record { others = record { other-pages = λ q other. refl; long = refl }; uncovered = λ i d u. refl }
 
 -- ELSEWHERE: any call of a writer
 pub elsewhere : (d : Duty) (w : PageWriter) (left : ℕ) (xs : List ℕ) → Elsewhere (w .page .0) (makes d left) xs (leaves d w left xs)
