@@ -1,4 +1,3 @@
--- `flash::geometry::check_flash` meets its contract. Assumes nothing.
 use borrow.Author.Needs.{needs}
 use Rattle.flash.proofs.geometry.check_flash.Statement.{statement}
 use Rattle.flash.proofs.geometry.check_flash.Tie as tie

@@ -1,4 +1,3 @@
--- `flash::geometry::has_page` meets its contract. Assumes nothing.
 use borrow.Author.Needs.{needs}
 use Rattle.flash.proofs.geometry.has_page.Statement.{statement}
 use Rattle.flash.proofs.geometry.has_page.Tie as tie

@@ -1,4 +1,3 @@
--- `flash::geometry::page_of` meets its contract. Assumes nothing.
 use mathlib.Core.Path.{ap, _∙_}
 use Prim.Native.Nat.{ℕ}
 use Rattle.flash.specs.Geometry.{pageFrom}

@@ -1,4 +1,4 @@
--- `flash::ops::spend` meets its contract. Assumes nothing.
+-- One that is due takes one from the count (`spent-due`), and one that is not takes none (`spent-not-due`). Assumes nothing.
 use Rattle.flash.proofs.OperationLaws.{spent-due, spent-not-due}
 use borrow.Author.Needs.{needs}
 use Rattle.flash.proofs.ops.spend.Statement.{statement}

@@ -1,4 +1,4 @@
--- `slices::field::byte` meets its contract. Assumes nothing.
+-- A byte past the end counts as 0 (`past-end`). Assumes nothing.
 use mathlib.Core.Path.{sym}
 use native.Mathlib.Omega.{arith}
 use borrow.Author.Needs.{needs}

@@ -1,4 +1,3 @@
--- `slices::field::join16` meets its contract. Assumes nothing.
 use native.Mathlib.Omega.{arith}
 use Rattle.types.specs.Bytes.{word}
 use borrow.Author.Needs.{needs}

@@ -1,4 +1,3 @@
--- `slices::field::put16` meets its contract. Assumes nothing.
 use mathlib.Core.Path.{refl}
 use borrow.Author.Needs.{needs}
 use Rattle.types.specs.Bytes.{bytesOf}

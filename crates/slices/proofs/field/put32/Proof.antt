@@ -1,4 +1,3 @@
--- `slices::field::put32` meets its contract. Assumes nothing.
 use mathlib.Core.Path.{refl}
 use Rattle.types.specs.Bytes.{bytesOf}
 use borrow.Author.Needs.{needs}

@@ -1,4 +1,3 @@
--- `writer::check::first` meets its contract. Assumes nothing.
 use borrow.Author.Needs.{needs}
 use Rattle.writer.proofs.check.first.Statement.{statement}
 use Rattle.writer.proofs.check.first.Tie as tie

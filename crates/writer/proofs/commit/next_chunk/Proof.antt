@@ -1,4 +1,3 @@
--- `writer::commit::next_chunk` meets its contract. Assumes nothing.
 use borrow.Author.Needs.{needs}
 use Rattle.writer.proofs.commit.next_chunk.Statement.{statement}
 use Rattle.writer.proofs.commit.next_chunk.Tie as tie

@@ -1,4 +1,4 @@
--- `writer::group::buffer_of` meets its contract. Assumes nothing.
+-- What is behind the whole groups goes to the start of the group (`take-rest`). Assumes nothing.
 use mathlib.Core.Path.{_∙_}
 use Rattle.slices.specs.Patch.{patch}
 use Rattle.writer.specs.Writes.{bufferOf}

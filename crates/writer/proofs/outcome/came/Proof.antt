@@ -1,4 +1,3 @@
--- `writer::outcome::came` meets its contract. Assumes nothing.
 use Rattle.writer.proofs.outcome.came.Statement.{statement}
 use Rattle.writer.proofs.outcome.came.Tie as tie
 

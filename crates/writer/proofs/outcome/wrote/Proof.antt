@@ -1,4 +1,3 @@
--- `writer::outcome::wrote` meets its contract. Assumes nothing.
 use borrow.Author.Needs.{needs}
 use Rattle.writer.proofs.outcome.wrote.Statement.{statement}
 use Rattle.writer.proofs.outcome.wrote.Tie as tie

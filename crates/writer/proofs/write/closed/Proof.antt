@@ -1,4 +1,3 @@
--- `writer::write::closed` meets its contract. Assumes nothing.
 use borrow.Author.Tests.{eq-eqb, ne-eqb}
 use borrow.Author.Needs.{needs}
 use Rattle.writer.proofs.write.closed.Statement.{statement}

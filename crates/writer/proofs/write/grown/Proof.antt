@@ -1,4 +1,3 @@
--- `writer::write::grown` meets its contract. Assumes nothing.
 use borrow.Author.Needs.{needs}
 use Rattle.writer.proofs.write.grown.Statement.{statement}
 use Rattle.writer.proofs.write.grown.Tie as tie

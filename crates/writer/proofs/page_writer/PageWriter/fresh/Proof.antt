@@ -1,4 +1,3 @@
--- `writer::page_writer::PageWriter::fresh` meets its contract. Assumes nothing.
 use borrow.Author.Needs.{needs}
 use Rattle.writer.proofs.page_writer.PageWriter.fresh.Statement.{statement}
 use Rattle.writer.proofs.page_writer.PageWriter.fresh.Tie as tie

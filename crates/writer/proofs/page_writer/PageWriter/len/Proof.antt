@@ -1,4 +1,3 @@
--- `writer::page_writer::PageWriter::len` meets its contract. Assumes nothing.
 use mathlib.Core.Path.{sym, _∙_}
 use borrow.Author.Needs.{needs}
 use Rattle.writer.proofs.page_writer.PageWriter.len.Statement.{statement}

@@ -1,4 +1,3 @@
--- `writer::page_writer::PageWriter::new` meets its contract. Assumes nothing.
 use mathlib.Core.Path.{ap, _∙_}
 use mathlib.Core.Bool.{true}
 use Prim.Native.Nat.{ℕ}

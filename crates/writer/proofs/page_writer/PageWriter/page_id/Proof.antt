@@ -1,4 +1,3 @@
--- `writer::page_writer::PageWriter::page_id` meets its contract. Assumes nothing.
 use mathlib.Core.Path.{sym, _∙_}
 use borrow.Author.Needs.{needs}
 use Rattle.writer.proofs.page_writer.PageWriter.page_id.Statement.{statement}
