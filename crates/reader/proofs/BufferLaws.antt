@@ -1,6 +1,6 @@
 -- Buffers of any sizes from 1 on hand out the same bytes, in other pieces. Assumes nothing.
 use mathlib.Core.Path.{_≡_, refl, sym, ap, subst, _∙_}
-use mathlib.Core.Bool.{Bool, true, false}
+use mathlib.Core.Bool.{Bool, true, false, cond}
 use mathlib.Core.List.{List, [], _∷_, _++_, append-assoc, flatten}
 use mathlib.Core.Logic.{⊎-elim}
 use Prim.Native.Nat.{ℕ, zero, suc, _+_, _-_, _%_, _≤_, _<_, min}
@@ -12,7 +12,7 @@ use Rattle.types.specs.Build.{pageSize, align, pageHeaderSize, chunkHeaderSize}
 use Rattle.types.specs.declared.page_id.PageID.{PageID}
 use Rattle.types.specs.declared.refusal.Verdict.{Verdict}
 use Rattle.types.specs.declared.refusal.Verdict.the-variants.{Fine, Refused}
-use Rattle.types.proofs.TestLaws.{eq-or-ne, le-or-lt}
+use Rattle.types.proofs.TestLaws.{decided, eq-or-ne, le-or-lt}
 use Rattle.flash.specs.Geometry.{pageOf}
 use Rattle.page.specs.Chunks.{nextOffset, payloadAt, checkedAt}
 use Rattle.page.specs.Headers.{pageHeaderFine}
@@ -20,14 +20,14 @@ use Rattle.page.specs.Walks.{Chunk, Walked, walkFrom}
 use Rattle.page.specs.declared.chunk.Step.{Step}
 use Rattle.page.specs.declared.chunk.Step.the-variants as step
 use Rattle.page.proofs.LaidLaws.{All, endOf, end-within, walk-laid}
-use Rattle.reader.specs.Finds.{Found, Joined, NotEmpty, joined, andThen, reads, readAll, foundWith, walkFinds}
+use Rattle.reader.specs.Finds.{Found, Joined, NotEmpty, joined, nothingMore, andThen, reads, readAll, foundWith, walkFinds}
 use Rattle.reader.specs.Calls.{opened, openPage}
 use Rattle.reader.specs.Checks.{openVerdict, readerVerdict}
 use Rattle.reader.specs.Moves.{arriving, moved, ready, restOf, past}
 use Rattle.reader.specs.States.{newReader, unread}
 use Rattle.reader.specs.declared.moves.Arrived.the-variants.{At, Corrupted}
 use Rattle.reader.specs.declared.page_reader.PageReader.{PageReader}
-use Rattle.reader.proofs.CheckLaws.{Inside, open-known}
+use Rattle.reader.proofs.CheckLaws.{Inside, open-known, reader-known}
 use Rattle.reader.proofs.MoveLaws.{apart, ready-ended, ready-in, ready-used, rest-in, rest-ended}
 use Rattle.reader.proofs.GoodLaws.{findsAt, finds-step}
 use Rattle.reader.proofs.FoundLaws.{on, on-range, on-fine, length-payload, reads-bad, reads-end, reads-some, chunk-in-walk, found-refused, found-wrong}
@@ -208,6 +208,52 @@ module _ (flash : List ℕ) (page : PageID) (inside : Inside (length flash) (pag
         enough = subst (λ (m : ℕ). len - 0 + total (walkFrom bytes m .chunks) < 4097) after (omega (arith, walk-total bytes o w));
       })
       ∙ sym (joined-then (payloadAt bytes o len) (walkFinds bytes next) ∙ ap (λ (m : ℕ). ahead (payloadAt bytes o len) (joined (walkFinds bytes m))) after)
+
+-- ---- the reads of any reader in range, whatever brought it there
+
+-- no byte, and this end
+abbrev pub noBytes : Verdict → Joined
+noBytes v = record { bytes = []; ends = v }
+
+pub joined-none : (v : Verdict) → joined (nothingMore v) ≡ noBytes v
+unfolding flatten
+joined-none v = refl
+
+-- what is left for a reader: the rest of its chunk, and what the walk finds behind it
+abbrev pub remaining : List ℕ → PageReader → Joined
+remaining page r = cond (r .ended) (noBytes Fine) (ahead (restOf page r) (joined (walkFinds page (nextOffset (r .offset) (r .len)))))
+
+pub remaining-ended : (page : List ℕ) (r : PageReader) → r .ended ≡ true → remaining page r ≡ noBytes Fine
+remaining-ended page r e = rw e
+
+pub remaining-in : (page : List ℕ) (r : PageReader) → r .ended ≡ false
+    → remaining page r ≡ ahead (restOf page r) (joined (walkFinds page (nextOffset (r .offset) (r .len))))
+remaining-in page r e = rw e
+
+-- no chunk behind its own is empty
+abbrev pub FullBehind : List ℕ → PageReader → Type 0
+FullBehind page r = r .ended ≡ false → All NotEmpty (walkFrom page (nextOffset (r .offset) (r .len)) .chunks)
+
+pub reads-remaining : (flash : List ℕ) (r : PageReader) → readerVerdict (length flash) r ≡ Fine → FullBehind (pageOf (r .page .0) flash) r
+    → (buffers : ℕ → List ℕ) → ((i : ℕ) → 1 ≤ length (buffers i))
+    → joined (reads (suc pageSize) buffers flash r) ≡ remaining (pageOf (r .page .0) flash) r
+reads-remaining flash r v full buffers room =
+    let bytes = pageOf (r .page .0) flash in
+    let known = reader-known (length flash) r v in
+    ⊎-elim
+    (λ (e : r .ended ≡ true).
+    ap joined (reads-end flash r v 4096 buffers r (ready-ended bytes r e) (rest-ended bytes r e)) ∙ joined-none Fine ∙ sym (remaining-ended bytes r e))
+    (λ (e : r .ended ≡ false).
+    let c = known .range .chunk e in
+    let fits : r .offset + 8 + r .len ≤ 4096 = c .fits in
+    let within : r .position ≤ r .len = c .within in
+    let next = nextOffset (r .offset) (r .len) in
+    let low : next ≤ 4096 = omega arith in
+    ap (λ (t : Bool). joined (reads 4097 buffers flash (on (r .page) t (r .offset) (r .len) (r .crc) (r .position)))) e
+    ∙ hand-out flash (r .page) (known .flash) 4097 (r .offset) (r .len) (r .crc) (r .position) buffers
+    (record { room = room; group = c .group; start = c .start; fits = fits; within = within; full = full e; enough = omega (arith, walk-total bytes next low) })
+    ∙ sym (remaining-in bytes r e ∙ ap (λ (l : List ℕ). ahead l (joined (walkFinds bytes next))) (rest-in bytes r e)))
+    (decided (r .ended))
 
 -- ---- the whole way, from a new reader
 

@@ -6,8 +6,10 @@ pub mod GoodLaws
 pub mod KeptLaws
 pub mod MoveLaws
 pub mod OpenLaws
+pub mod PassedLaws
 pub mod RangeLaws
 pub mod ReadLaws
 pub mod RoomLaws
 pub mod SkipLaws
+pub mod StandingLaws
 pub mod StateLaws

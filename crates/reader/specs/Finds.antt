@@ -3,7 +3,7 @@
 use mathlib.Core.Bool.{Bool, cond}
 use mathlib.Core.List.{List, [], _∷_, flatten}
 use Prim.Native.Nat.{ℕ, zero, suc, _≤_}
-use lib.ListN.{length, take}
+use lib.ListN.{length, take, drop}
 use Rattle.types.specs.Build.{pageSize, maxChunkSize}
 use Rattle.types.specs.declared.page_id.PageID.{PageID}
 use Rattle.types.specs.declared.refusal.Refusal.the-variants as row
@@ -94,3 +94,7 @@ pub record Joined : Type 0 where
 
 abbrev pub joined : Found → Joined
 joined f = record { bytes = flatten (f .parts); ends = f .ends }
+
+-- without the first n of them
+abbrev pub without : ℕ → Joined → Joined
+without n j = record { bytes = drop n (j .bytes); ends = j .ends }
