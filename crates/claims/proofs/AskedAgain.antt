@@ -19,7 +19,6 @@ use Rattle.reader.specs.declared.answers.EndTest.the-variants as endTest
 use Rattle.reader.specs.declared.answers.Outcome.{Outcome}
 use Rattle.reader.specs.declared.answers.Outcome.the-variants as outcome
 use Rattle.reader.specs.declared.answers.Passage.{Passage}
-use Rattle.reader.specs.declared.dehydrated.DehydratedPageReader.{DehydratedPageReader}
 use Rattle.reader.specs.declared.page_reader.PageReader.{PageReader}
 use Rattle.reader.proofs.AgainLaws.{read-refused-so, skip-kept, eof-kept, open-reader-kept, rehydrate-kept}
 use Rattle.cursor.specs.Answers.{newNumber, nextNumber}
@@ -33,7 +32,7 @@ use Rattle.cursor.specs.declared.answer.NextAnswer.the-variants as next
 use Rattle.cursor.specs.declared.place.Cursor.{Cursor}
 use Rattle.cursor.proofs.AgainLaws.{next-again, key-kept, value-kept}
 use Rattle.cursor.proofs.NoCursorLaws.{new-refused-empty, none-handed}
-use Rattle.claims.specs.Again.{Left, IsRefused, AskedAgain, ReaderCall, readsHeader, opens, reads, skips, asksForItsEnd, dehydrates, rehydrates, asksItsPage, sameRoom, readerLeft, Buffers, Rooms, roomsOf, nextLeft}
+use Rattle.claims.specs.Again.{Left, IsRefused, AskedAgain, Slots, ReaderCall, readsHeader, opens, reads, skips, asksForItsEnd, dehydrates, rehydrates, asksItsPage, sameRoom, readerLeft, Buffers, Rooms, roomsOf, nextLeft}
 
 -- ---- a number other than 0 is a refusal's
 
@@ -78,12 +77,12 @@ left-is m n s t a b p q r = rw (p, q, r)
 
 -- ---- the reader
 
-module _ (flash : List ℕ) (r : PageReader) where
+module _ (flash : List ℕ) (slots : Slots) (r : PageReader) where
   -- a refused call, with any buffer of the same room where it counts
   abbrev Kept : ReaderCall → List ℕ → Type 0
-  Kept call buffer = (n : ℕ) × ((other : List ℕ) → sameRoom call other ≡ sameRoom call buffer → readerLeft flash call r other ≡ record { number = n; state = r; lent = other })
+  Kept call buffer = (n : ℕ) × ((other : List ℕ) → sameRoom call other ≡ sameRoom call buffer → readerLeft flash slots call r other ≡ record { number = n; state = r; lent = other })
 
-  header-kept : (magic : ℕ) (page : PageID) (buffer : List ℕ) → IsRefused (readerLeft flash (readsHeader magic page) r buffer) → Kept (readsHeader magic page) buffer
+  header-kept : (magic : ℕ) (page : PageID) (buffer : List ℕ) → IsRefused (readerLeft flash slots (readsHeader magic page) r buffer) → Kept (readsHeader magic page) buffer
   unfolding readerLeft readHeaderBytes
   header-kept magic page buffer e =
       let w = outcome-refused (readHeader flash magic page (length buffer)) e in (
@@ -93,7 +92,7 @@ module _ (flash : List ℕ) (r : PageReader) where
             left-is _ _ _ _ _ _ (ap (λ (x : Outcome). outcomeTold x .number) a) refl (ap (λ (x : Outcome). filled x (headerOf (pageOf (page .0) flash) (length other)) other) a),
       )
 
-  open-kept : (magic : ℕ) (page : PageID) (buffer : List ℕ) → IsRefused (readerLeft flash (opens magic page) r buffer) → Kept (opens magic page) buffer
+  open-kept : (magic : ℕ) (page : PageID) (buffer : List ℕ) → IsRefused (readerLeft flash slots (opens magic page) r buffer) → Kept (opens magic page) buffer
   unfolding readerLeft openBytes
   open-kept magic page buffer e =
       let w = outcome-refused (openPage r flash magic page (length buffer) .answer) e in (
@@ -104,7 +103,7 @@ module _ (flash : List ℕ) (r : PageReader) where
             (ap (λ (x : Outcome). filled x (headerOf (pageOf (page .0) flash) (length other)) other) a),
       )
 
-  read-kept : (buffer : List ℕ) → IsRefused (readerLeft flash reads r buffer) → Kept reads buffer
+  read-kept : (buffer : List ℕ) → IsRefused (readerLeft flash slots reads r buffer) → Kept reads buffer
   unfolding readerLeft
   read-kept buffer e =
       let w = count-refused (read r flash (length buffer) .answer) e in (
@@ -114,46 +113,54 @@ module _ (flash : List ℕ) (r : PageReader) where
             left-is _ _ _ _ _ _ (ap (λ (x : Passage). countTold (x .answer) .number) (k .0)) (ap (λ (x : Passage). x .reader) (k .0)) (k .1 .0),
       )
 
-  skip-left : (n : ℕ) (buffer : List ℕ) → IsRefused (readerLeft flash (skips n) r buffer) → Kept (skips n) buffer
+  skip-left : (n : ℕ) (buffer : List ℕ) → IsRefused (readerLeft flash slots (skips n) r buffer) → Kept (skips n) buffer
   unfolding readerLeft
   skip-left n buffer e =
       let w = count-refused (skip r flash n .answer) e in
       (numberOf (w .0), λ other q. left-is _ _ _ _ _ _ (ap (λ (x : Count). countTold x .number) (w .1)) (skip-kept r flash (w .0) n (w .1)) refl)
 
-  eof-left : (buffer : List ℕ) → IsRefused (readerLeft flash asksForItsEnd r buffer) → Kept asksForItsEnd buffer
+  eof-left : (buffer : List ℕ) → IsRefused (readerLeft flash slots asksForItsEnd r buffer) → Kept asksForItsEnd buffer
   unfolding readerLeft
   eof-left buffer e =
       let w = endTest-refused (isAtEof r flash .answer) e in
       (numberOf (w .0), λ other q. left-is _ _ _ _ _ _ (ap (λ (x : EndTest). endTestTold x .number) (w .1)) (eof-kept r flash (w .0) (w .1)) refl)
 
-  rehydrate-left : (d : DehydratedPageReader) (buffer : List ℕ) → IsRefused (readerLeft flash (rehydrates d) r buffer) → Kept (rehydrates d) buffer
+  rehydrate-left : (slot : ℕ) (buffer : List ℕ) → IsRefused (readerLeft flash slots (rehydrates slot) r buffer) → Kept (rehydrates slot) buffer
   unfolding readerLeft
-  rehydrate-left d buffer e =
+  rehydrate-left slot buffer e =
+      let d = slots slot in
       let w = outcome-refused (rehydrateFrom r flash d .answer) e in
       (numberOf (w .0), λ other q. left-is _ _ _ _ _ _ (ap (λ (x : Outcome). outcomeTold x .number) (w .1)) (rehydrate-kept r flash (w .0) d (w .1)) refl)
 
-  dehydrate-left : (buffer : List ℕ) → Kept dehydrates buffer
+  dehydrate-left : (slot : ℕ) (buffer : List ℕ) → Kept (dehydrates slot) buffer
   unfolding readerLeft
-  dehydrate-left buffer = (dehydrationTold (dehydrate r) .number, λ other q. refl)
+  dehydrate-left slot buffer = (dehydrationTold (dehydrate r) .number, λ other q. refl)
 
   page-left : (buffer : List ℕ) → Kept asksItsPage buffer
   unfolding readerLeft
   page-left buffer = (pageTold (pageId r) .number, λ other q. refl)
 
-  kept : (call : ReaderCall) (buffer : List ℕ) → IsRefused (readerLeft flash call r buffer) → Kept call buffer
+  pub kept : (call : ReaderCall) (buffer : List ℕ) → IsRefused (readerLeft flash slots call r buffer) → Kept call buffer
   kept (readsHeader magic page) buffer e = header-kept magic page buffer e
   kept (opens magic page) buffer e = open-kept magic page buffer e
   kept reads buffer e = read-kept buffer e
   kept (skips n) buffer e = skip-left n buffer e
   kept asksForItsEnd buffer e = eof-left buffer e
-  kept dehydrates buffer e = dehydrate-left buffer
-  kept (rehydrates d) buffer e = rehydrate-left d buffer e
+  kept (dehydrates slot) buffer e = dehydrate-left slot buffer
+  kept (rehydrates slot) buffer e = rehydrate-left slot buffer e
   kept asksItsPage buffer e = page-left buffer
 
 -- ASKED AGAIN, of a reader
-pub asked-again : (flash : List ℕ) (call : ReaderCall) (r : PageReader) (buffer : List ℕ) → IsRefused (readerLeft flash call r buffer)
-    → AskedAgain (sameRoom call) (readerLeft flash call) r buffer
-asked-again flash call r buffer e = let k = kept flash r call buffer e in settles (sameRoom call) (readerLeft flash call) r buffer (k .0) r (k .1 buffer refl) (k .1)
+pub asked-again : (flash : List ℕ) (slots : Slots) (call : ReaderCall) (r : PageReader) (buffer : List ℕ) → IsRefused (readerLeft flash slots call r buffer)
+    → AskedAgain (sameRoom call) (readerLeft flash slots call) r buffer
+asked-again flash slots call r buffer e =
+    let k = kept flash slots r call buffer e in settles (sameRoom call) (readerLeft flash slots call) r buffer (k .0) r (k .1 buffer refl) (k .1)
+
+-- so a refused read is refused again into any other buffer, longer or shorter, and puts nothing there
+pub read-asked-again : (flash : List ℕ) (slots : Slots) (r : PageReader) (buffer other : List ℕ)
+    → let first = readerLeft flash slots reads r buffer in
+    IsRefused first → readerLeft flash slots reads (first .state) other ≡ record { number = first .number; state = first .state; lent = other }
+read-asked-again flash slots r buffer other e = asked-again flash slots reads r buffer e .again other refl
 
 -- ---- the cursor
 

@@ -12,6 +12,8 @@ pub mod ErasedLaws
 pub mod GoodLaws
 pub mod GroupLaws
 pub mod HistoryLaws
+pub mod KnownLaws
+pub mod NeverUnchecked
 pub mod OneAlloc
 pub mod OneCrc
 pub mod OneCursor
@@ -29,6 +31,8 @@ pub mod OneWriter
 pub mod OutcomeLaws
 pub mod PageCutLaws
 pub mod Retried
+pub mod SkipIsRead
 pub mod StarredNumbers
 pub mod WorkedCalls
 pub mod WorkedLaws
+pub mod WorkedReads

@@ -35,14 +35,19 @@ pub record AskedAgain {State Lent Room : Type 0} (room : Lent → Room) (call : 
 -- ---- the calls of a reader, with the flash; a call that is lent no buffer leaves it, and read_header, dehydrate and page_id leave
 -- the reader
 
+-- what is kept of readers, in numbered slots
+abbrev pub Slots : Type 0
+Slots = ℕ → DehydratedPageReader
+
+-- dehydrate is to fill a slot, and rehydrate_from takes what a slot holds
 pub data ReaderCall : Type 0 where
   readsHeader : ℕ → PageID → ReaderCall
   opens : ℕ → PageID → ReaderCall
   reads : ReaderCall
   skips : ℕ → ReaderCall
   asksForItsEnd : ReaderCall
-  dehydrates : ReaderCall
-  rehydrates : DehydratedPageReader → ReaderCall
+  dehydrates : ℕ → ReaderCall
+  rehydrates : ℕ → ReaderCall
   asksItsPage : ReaderCall
 
 -- the room that has to be the same: a header's, whose length is asked for; to a read any buffer may be lent the next time
@@ -52,34 +57,37 @@ sameRoom (opens magic page) header = length header
 sameRoom reads buffer = 0
 sameRoom (skips count) buffer = 0
 sameRoom asksForItsEnd buffer = 0
-sameRoom dehydrates buffer = 0
-sameRoom (rehydrates d) buffer = 0
+sameRoom (dehydrates slot) buffer = 0
+sameRoom (rehydrates slot) buffer = 0
 sameRoom asksItsPage buffer = 0
 
-unfoldable pub readerLeft : List ℕ → ReaderCall → PageReader → List ℕ → Left PageReader (List ℕ)
-readerLeft flash (readsHeader magic page) r header = record {
+unfoldable pub readerLeft : List ℕ → Slots → ReaderCall → PageReader → List ℕ → Left PageReader (List ℕ)
+readerLeft flash slots (readsHeader magic page) r header = record {
   number = outcomeTold (readHeader flash magic page (length header)) .number;
   state = r;
   lent = readHeaderBytes flash magic page header;
 }
-readerLeft flash (opens magic page) r header = record {
+readerLeft flash slots (opens magic page) r header = record {
   number = outcomeTold (openPage r flash magic page (length header) .answer) .number;
   state = openPage r flash magic page (length header) .reader;
   lent = openBytes r flash magic page header;
 }
-readerLeft flash reads r buffer = record {
+readerLeft flash slots reads r buffer = record {
   number = countTold (read r flash (length buffer) .answer) .number;
   state = read r flash (length buffer) .reader;
   lent = readBytes r flash buffer;
 }
-readerLeft flash (skips count) r buffer =
+readerLeft flash slots (skips count) r buffer =
     record { number = countTold (skip r flash count .answer) .number; state = skip r flash count .reader; lent = buffer }
-readerLeft flash asksForItsEnd r buffer =
+readerLeft flash slots asksForItsEnd r buffer =
     record { number = endTestTold (isAtEof r flash .answer) .number; state = isAtEof r flash .reader; lent = buffer }
-readerLeft flash dehydrates r buffer = record { number = dehydrationTold (dehydrate r) .number; state = r; lent = buffer }
-readerLeft flash (rehydrates d) r buffer =
-    record { number = outcomeTold (rehydrateFrom r flash d .answer) .number; state = rehydrateFrom r flash d .reader; lent = buffer }
-readerLeft flash asksItsPage r buffer = record { number = pageTold (pageId r) .number; state = r; lent = buffer }
+readerLeft flash slots (dehydrates slot) r buffer = record { number = dehydrationTold (dehydrate r) .number; state = r; lent = buffer }
+readerLeft flash slots (rehydrates slot) r buffer = record {
+  number = outcomeTold (rehydrateFrom r flash (slots slot) .answer) .number;
+  state = rehydrateFrom r flash (slots slot) .reader;
+  lent = buffer;
+}
+readerLeft flash slots asksItsPage r buffer = record { number = pageTold (pageId r) .number; state = r; lent = buffer }
 
 -- ---- next, with the runs, their ends and the upper bound
 

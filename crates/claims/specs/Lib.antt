@@ -2,8 +2,11 @@ pub mod Additions
 pub mod Again
 pub mod Pages
 pub mod Histories
+pub mod ReaderHistories
 pub mod Sequences
 pub mod Untouched
+pub mod Skips
 pub mod Worked
+pub mod WorkedReads
 pub mod Starred
 pub mod Outcomes

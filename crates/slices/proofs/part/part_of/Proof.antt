@@ -1,7 +1,7 @@
 -- Start and end are cut to the length, which takes the same bytes (`part-lent`). Assumes nothing.
 use mathlib.Core.Path.{ap, _∙_}
 use Prim.Native.Nat.{ℕ, _+_, min}
-use Rattle.slices.proofs.GeometryLaws.{part-lent}
+use Rattle.slices.proofs.PartLaws.{part-lent}
 use borrow.Author.Needs.{needs}
 use Rattle.slices.proofs.part.part_of.Statement.{statement}
 use Rattle.slices.proofs.part.part_of.Tie as tie

@@ -1,0 +1,27 @@
+-- Flashes of one page to read: with two good chunks, and with a second chunk whose payload is damaged. Assumes nothing.
+use mathlib.Core.List.{List, [], _∷_, _++_}
+use Prim.Native.Nat.{ℕ, _-_}
+use Rattle.types.specs.Build.{eraseValue, pageSize}
+use Rattle.crc.specs.Published.{published}
+use Rattle.flash.specs.Patch.{blank}
+use Rattle.page.specs.Chunks.{chunkHeader}
+use Rattle.page.specs.Headers.{pageHeader}
+use Rattle.claims.specs.Again.{opens, reads}
+use Rattle.claims.specs.ReaderHistories.{Asked}
+use Rattle.claims.specs.Worked.{workedMagic, workedPage, chunkOfOne}
+
+-- the bytes 5, and 6 and 7
+unfoldable pub twoChunkFlash : List ℕ
+twoChunkFlash =
+    pageHeader workedMagic 0 [] ++ (chunkOfOne 5 ++ (chunkHeader 2 (published (6 ∷ 7 ∷ [])) ++ (6 ∷ 7 ∷ 0 ∷ 0 ∷ []) ++ blank eraseValue (pageSize - 36)))
+
+-- the byte 5, and 7 under the sum of 6
+unfoldable pub damagedFlash : List ℕ
+damagedFlash = pageHeader workedMagic 0 [] ++ (chunkOfOne 5 ++ (chunkHeader 1 (published (6 ∷ [])) ++ (7 ∷ 0 ∷ 0 ∷ 0 ∷ []) ++ blank eraseValue (pageSize - 36)))
+
+-- to open the page, and to read into a buffer of two bytes
+abbrev pub openIt : Asked
+openIt = record { call = opens workedMagic workedPage; lent = [] }
+
+abbrev pub readTwo : Asked
+readTwo = record { call = reads; lent = 8 ∷ 9 ∷ [] }
