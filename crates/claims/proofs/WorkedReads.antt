@@ -1,27 +1,34 @@
--- Reads of a page with a damaged second chunk, asked three times, and a skip over the border of two chunks, by computation. Assumes
+-- Reads of a page with a damaged second chunk, asked three times, and skips over the border of two chunks, by computation. Assumes
 -- nothing.
 use mathlib.Core.Bool.{xor}
-use mathlib.Core.Path.{_≡_, refl}
+use mathlib.Core.Path.{_≡_, refl, sym, subst}
 use mathlib.Core.List.{List, [], _∷_, flatten}
+use mathlib.Core.Logic.{⊎-elim}
 use Prim.Native.Nat.{ℕ}
+use native.Mathlib.Omega.{arith}
+use lib.ListN.{length}
 use Rattle.types.specs.Bytes.{word, bytesOf}
 use Rattle.types.specs.declared.refusal.Verdict.the-variants.{Fine}
 use Rattle.crc.specs.Published as crc
+use Rattle.flash.specs.Geometry.{pageOf}
 use Rattle.flash.specs.Patch.{over, blank}
-use Rattle.page.specs.Chunks.{chunkHeader, chunkAt, checkedAt}
+use Rattle.page.specs.Chunks.{chunkHeader, nextOffset, chunkAt, checkedAt}
 use Rattle.page.specs.Headers.{pageHeader, pageHeaderFine}
+use Rattle.page.specs.Walks.{Chunk, walk, walkFrom}
+use Rattle.page.proofs.LaidLaws.{All}
 use Rattle.reader.specs.Calls.{openPage, openBytes, read, readBytes, skip}
 use Rattle.reader.specs.Checks.{openVerdict, readerVerdict}
-use Rattle.reader.specs.Finds.{Joined, reads}
+use Rattle.reader.specs.Finds.{NotEmpty, reads}
 use Rattle.reader.specs.Moves.{moved, ready, restOf, skipBy, skipped}
 use Rattle.reader.specs.States.{newReader}
 use Rattle.reader.specs.declared.answers.Count.the-variants as count
 use Rattle.reader.specs.declared.page_reader.PageReader.{PageReader}
 use Rattle.claims.specs.Again.{readerLeft}
-use Rattle.claims.specs.ReaderHistories.{atFirst, Asked, leftBy, afterCall, afterCalls}
-use Rattle.claims.specs.Skips.{foundFrom}
+use Rattle.claims.specs.ReaderHistories.{atFirst, Asked, leftBy, afterCall, afterCalls, Among}
+use Rattle.claims.specs.Skips.{foundFrom, SkipIsRead}
 use Rattle.claims.specs.Worked.{workedMagic, workedPage, chunkOfOne}
-use Rattle.claims.specs.WorkedReads.{twoChunkFlash, damagedFlash, openIt, readTwo}
+use Rattle.claims.specs.WorkedReads.{twoChunkFlash, emptyBetweenFlash, damagedFlash, openIt, readTwo}
+use Rattle.claims.proofs.SkipIsRead.{skip-is-read}
 
 -- ---- asked three times
 
@@ -39,18 +46,43 @@ worked-asked = ((refl, refl), ((refl, refl), (refl, refl)))
 
 -- ---- a skip over a border
 
-abbrev atStart : PageReader
-atStart = openPage newReader twoChunkFlash workedMagic workedPage 0 .reader
+abbrev openedOn : List ℕ → PageReader
+openedOn flash = openPage newReader flash workedMagic workedPage 0 .reader
 
 -- a buffer of one byte, again and again
 abbrev ones : ℕ → List ℕ
 ones i = 9 ∷ []
 
-abbrev bytes : List ℕ → Joined
-bytes l = record { bytes = l; ends = Fine }
+-- what is found, how a skip of two answers, and what is found behind it
+abbrev Skips : List ℕ → List ℕ → ℕ → List ℕ → Type 0
+Skips flash before passed behind =
+    let r = openedOn flash in
+    (foundFrom ones flash r ≡ record { bytes = before; ends = Fine })
+    × ((skip r flash 2 .answer ≡ count.Bytes passed) × (foundFrom ones flash (skip r flash 2 .reader) ≡ record { bytes = behind; ends = Fine }))
 
 -- three bytes are found; a skip of two answers 2, and the last one is found behind it
-pub worked-skip : (foundFrom ones twoChunkFlash atStart ≡ bytes (5 ∷ 6 ∷ 7 ∷ []))
-    × ((skip atStart twoChunkFlash 2 .answer ≡ count.Bytes 2) × (foundFrom ones twoChunkFlash (skip atStart twoChunkFlash 2 .reader) ≡ bytes (7 ∷ [])))
+pub worked-skip : Skips twoChunkFlash (5 ∷ 6 ∷ 7 ∷ []) 2 (7 ∷ [])
 unfolding word bytesOf crc.bits crc.number crc.message crc.among crc.terms crc.generator xor crc.plus crc.divided crc.dividend crc.remainder crc.published over blank chunkHeader pageHeader chunkOfOne twoChunkFlash pageHeaderFine chunkAt checkedAt moved ready restOf skipBy skipped openVerdict readerVerdict openPage read readBytes skip reads flatten
 worked-skip = (refl, (refl, refl))
+
+among-all : (P : Chunk → Type 0) (cs : List Chunk) → All P cs → (c : Chunk) → Among c cs → P c
+among-all P [] all c a = absurd a
+among-all P (d ∷ ds) all c a = ⊎-elim (λ (q : c ≡ d). subst P (sym q) (all .0)) (λ b. among-all P ds (all .1) c b) a
+
+abbrev behindFirst : List Chunk
+behindFirst = walkFrom (pageOf 0 twoChunkFlash) (nextOffset (openedOn twoChunkFlash .offset) (openedOn twoChunkFlash .len)) .chunks
+
+premises : (openedOn twoChunkFlash .page .0 ≡ 0) × ((readerVerdict (length twoChunkFlash) (openedOn twoChunkFlash) ≡ Fine) × All NotEmpty behindFirst)
+unfolding word bytesOf crc.bits crc.number crc.message crc.among crc.terms crc.generator xor crc.plus crc.divided crc.dividend crc.remainder crc.published blank chunkHeader pageHeader chunkOfOne twoChunkFlash pageHeaderFine chunkAt checkedAt openVerdict readerVerdict openPage walk walkFrom
+premises = (refl, (refl, (omega arith, tt)))
+
+-- and that page meets the premises
+pub worked-skip-is-read : SkipIsRead twoChunkFlash (openedOn twoChunkFlash) 2 ones ones
+worked-skip-is-read =
+    skip-is-read twoChunkFlash (openedOn twoChunkFlash) 2 ones ones (premises .1 .0)
+    (λ e. rw (premises .0) (among-all NotEmpty behindFirst (premises .1 .1))) (λ i. omega arith) (λ i. omega arith)
+
+-- with an empty chunk in between, where a read answers 0, one byte is found in front of a skip that passes two
+pub worked-empty : Skips emptyBetweenFlash (5 ∷ []) 2 []
+unfolding word bytesOf crc.bits crc.number crc.message crc.among crc.terms crc.generator xor crc.plus crc.divided crc.dividend crc.remainder crc.published over blank chunkHeader pageHeader chunkOfOne emptyBetweenFlash pageHeaderFine chunkAt checkedAt moved ready restOf skipBy skipped openVerdict readerVerdict openPage read readBytes skip reads flatten
+worked-empty = (refl, (refl, refl))

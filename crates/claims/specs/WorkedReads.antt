@@ -1,4 +1,5 @@
--- Flashes of one page to read: with two good chunks, and with a second chunk whose payload is damaged. Assumes nothing.
+-- Flashes of one page to read: with two good chunks, with an empty one in between, and with a second chunk whose payload is damaged.
+-- Assumes nothing.
 use mathlib.Core.List.{List, [], _∷_, _++_}
 use Prim.Native.Nat.{ℕ, _-_}
 use Rattle.types.specs.Build.{eraseValue, pageSize}
@@ -14,6 +15,10 @@ use Rattle.claims.specs.Worked.{workedMagic, workedPage, chunkOfOne}
 unfoldable pub twoChunkFlash : List ℕ
 twoChunkFlash =
     pageHeader workedMagic 0 [] ++ (chunkOfOne 5 ++ (chunkHeader 2 (published (6 ∷ 7 ∷ [])) ++ (6 ∷ 7 ∷ 0 ∷ 0 ∷ []) ++ blank eraseValue (pageSize - 36)))
+
+-- the byte 5, no byte, and 6
+unfoldable pub emptyBetweenFlash : List ℕ
+emptyBetweenFlash = pageHeader workedMagic 0 [] ++ (chunkOfOne 5 ++ (chunkHeader 0 (published []) ++ (chunkOfOne 6 ++ blank eraseValue (pageSize - 44))))
 
 -- the byte 5, and 7 under the sum of 6
 unfoldable pub damagedFlash : List ℕ
