@@ -34,5 +34,6 @@ pub mod Retried
 pub mod SkipIsRead
 pub mod StarredNumbers
 pub mod WorkedCalls
+pub mod WorkedHistory
 pub mod WorkedLaws
 pub mod WorkedReads

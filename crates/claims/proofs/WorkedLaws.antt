@@ -26,10 +26,10 @@ use Rattle.claims.specs.Worked.{workedMagic, workedPage, chunkOfOne, wor
 use Rattle.claims.proofs.CutSafe.{cut-safe, cut-safe-rooms, cut-safe-header}
 use Rattle.claims.proofs.Elsewhere.{cut-elsewhere}
 
-abbrev six : List (List ℕ)
+abbrev pub six : List (List ℕ)
 six = (6 ∷ []) ∷ []
 
-six-bytes : AllBytes six
+pub six-bytes : AllBytes six
 unfolding Bytes
 six-bytes = (byte, tt)
   where
@@ -37,11 +37,11 @@ six-bytes = (byte, tt)
     byte zero = omega arith
     byte (suc i) = omega arith
 
-worked-shape : (flashFine (length workedFlash) ≡ true) × (hasPage (length workedFlash) 0 ≡ true)
+pub worked-shape : (flashFine (length workedFlash) ≡ true) × (hasPage (length workedFlash) 0 ≡ true)
 unfolding bytesOf blank chunkHeader pageHeader chunkOfOne workedFlash
 worked-shape = (refl, refl)
 
-worked-good : Good workedMagic 0 0 24 (pageOf 0 workedFlash)
+pub worked-good : Good workedMagic 0 0 24 (pageOf 0 workedFlash)
 unfolding word bytesOf bits number message among terms generator xor plus divided dividend remainder published blank chunkHeader pageHeader chunkOfOne workedFlash pageHeaderFine chunkAt walk walkFrom
 worked-good = record { whole = refl; length-fine = refl; header = refl; ends = refl; chunks = (record { some = omega arith; sum = refl }, tt) }
 
@@ -63,7 +63,7 @@ worked-whole =
     ∙ ap finds (worked-payloads .1)
 
 -- into buffers of one byte each: the same bytes
-abbrev small : ℕ → List ℕ
+abbrev pub small : ℕ → List ℕ
 small i = 0 ∷ []
 
 pub worked-rooms : joined (foundWith small (added eraseValue workedFlash workedPage 0 newWriter 2 six) workedMagic workedPage 0) ≡ handsOut (5 ∷ 6 ∷ [])
@@ -74,15 +74,15 @@ worked-rooms =
 
 -- ---- a page with a higher header
 
-higher-shape : (flashFine (length higherFlash) ≡ true) × (hasPage (length higherFlash) 0 ≡ true)
+pub higher-shape : (flashFine (length higherFlash) ≡ true) × (hasPage (length higherFlash) 0 ≡ true)
 unfolding bytesOf blank pageHeader higherFlash
 higher-shape = (refl, refl)
 
-higher-good : Good workedMagic 0 4 16 (pageOf 0 higherFlash)
+pub higher-good : Good workedMagic 0 4 16 (pageOf 0 higherFlash)
 unfolding word bytesOf bits number message among terms generator xor plus divided dividend remainder published blank pageHeader higherFlash pageHeaderFine chunkAt walk walkFrom
 higher-good = record { whole = refl; length-fine = refl; header = refl; ends = refl; chunks = tt }
 
-higher-header : headerOf (pageOf 0 higherFlash) 4 ≡ 1 ∷ 2 ∷ 3 ∷ 4 ∷ []
+pub higher-header : headerOf (pageOf 0 higherFlash) 4 ≡ 1 ∷ 2 ∷ 3 ∷ 4 ∷ []
 unfolding bytesOf blank pageHeader higherFlash
 higher-header = refl
 
@@ -94,7 +94,7 @@ worked-header =
 
 -- ---- a second page
 
-second-page : pageOf 1 twoPages ≡ blank 9 pageSize
+pub second-page : pageOf 1 twoPages ≡ blank 9 pageSize
 unfolding bytesOf blank pageHeader headedFlash twoPages
 second-page = refl
 
