@@ -41,7 +41,8 @@ Leaves before number lent =
 -- the first read puts the byte of the good chunk; the next two are refused with 1, and put nothing
 pub worked-asked : Leaves (openIt ∷ []) 0 (5 ∷ 9 ∷ [])
     × (Leaves (openIt ∷ readTwo ∷ []) 1 (8 ∷ 9 ∷ []) × Leaves (openIt ∷ readTwo ∷ readTwo ∷ []) 1 (8 ∷ 9 ∷ []))
-unfolding word bytesOf crc.bits crc.number crc.message crc.among crc.terms crc.generator xor crc.plus crc.divided crc.dividend crc.remainder crc.published over blank chunkHeader pageHeader chunkOfOne damagedFlash pageHeaderFine chunkAt checkedAt moved ready restOf openVerdict readerVerdict openPage openBytes read readBytes readerLeft afterCall afterCalls
+unfolding word bytesOf crc.bits crc.number crc.message crc.among crc.terms crc.generator xor crc.plus crc.divided crc.dividend crc.remainder crc.published over blank chunkHeader
+    pageHeader chunkOfOne damagedFlash pageHeaderFine chunkAt checkedAt moved ready restOf openVerdict readerVerdict openPage openBytes read readBytes readerLeft afterCall afterCalls
 worked-asked = ((refl, refl), ((refl, refl), (refl, refl)))
 
 -- ---- a skip over a border
@@ -62,7 +63,8 @@ Skips flash before passed behind =
 
 -- three bytes are found; a skip of two answers 2, and the last one is found behind it
 pub worked-skip : Skips twoChunkFlash (5 ∷ 6 ∷ 7 ∷ []) 2 (7 ∷ [])
-unfolding word bytesOf crc.bits crc.number crc.message crc.among crc.terms crc.generator xor crc.plus crc.divided crc.dividend crc.remainder crc.published over blank chunkHeader pageHeader chunkOfOne twoChunkFlash pageHeaderFine chunkAt checkedAt moved ready restOf skipBy skipped openVerdict readerVerdict openPage read readBytes skip reads flatten
+unfolding word bytesOf crc.bits crc.number crc.message crc.among crc.terms crc.generator xor crc.plus crc.divided crc.dividend crc.remainder crc.published over blank chunkHeader
+    pageHeader chunkOfOne twoChunkFlash pageHeaderFine chunkAt checkedAt moved ready restOf skipBy skipped openVerdict readerVerdict openPage read readBytes skip reads flatten
 worked-skip = (refl, (refl, refl))
 
 among-all : (P : Chunk → Type 0) (cs : List Chunk) → All P cs → (c : Chunk) → Among c cs → P c
@@ -73,7 +75,8 @@ abbrev behindFirst : List Chunk
 behindFirst = walkFrom (pageOf 0 twoChunkFlash) (nextOffset (openedOn twoChunkFlash .offset) (openedOn twoChunkFlash .len)) .chunks
 
 premises : (openedOn twoChunkFlash .page .0 ≡ 0) × ((readerVerdict (length twoChunkFlash) (openedOn twoChunkFlash) ≡ Fine) × All NotEmpty behindFirst)
-unfolding word bytesOf crc.bits crc.number crc.message crc.among crc.terms crc.generator xor crc.plus crc.divided crc.dividend crc.remainder crc.published blank chunkHeader pageHeader chunkOfOne twoChunkFlash pageHeaderFine chunkAt checkedAt openVerdict readerVerdict openPage walk walkFrom
+unfolding word bytesOf crc.bits crc.number crc.message crc.among crc.terms crc.generator xor crc.plus crc.divided crc.dividend crc.remainder crc.published blank chunkHeader
+    pageHeader chunkOfOne twoChunkFlash pageHeaderFine chunkAt checkedAt openVerdict readerVerdict openPage walk walkFrom
 premises = (refl, (refl, (omega arith, tt)))
 
 -- and that page meets the premises
@@ -84,5 +87,6 @@ worked-skip-is-read =
 
 -- with an empty chunk in between, where a read answers 0, one byte is found in front of a skip that passes two
 pub worked-empty : Skips emptyBetweenFlash (5 ∷ []) 2 []
-unfolding word bytesOf crc.bits crc.number crc.message crc.among crc.terms crc.generator xor crc.plus crc.divided crc.dividend crc.remainder crc.published over blank chunkHeader pageHeader chunkOfOne emptyBetweenFlash pageHeaderFine chunkAt checkedAt moved ready restOf skipBy skipped openVerdict readerVerdict openPage read readBytes skip reads flatten
+unfolding word bytesOf crc.bits crc.number crc.message crc.among crc.terms crc.generator xor crc.plus crc.divided crc.dividend crc.remainder crc.published over blank chunkHeader
+    pageHeader chunkOfOne emptyBetweenFlash pageHeaderFine chunkAt checkedAt moved ready restOf skipBy skipped openVerdict readerVerdict openPage read readBytes skip reads flatten
 worked-empty = (refl, (refl, refl))

@@ -1,6 +1,6 @@
--- Any history of a reader on a flash that stays as it is: calls one after the other, refused ones among them, each on the reader that
--- the one before handed back. Readers are kept in slots and brought back from them. Beside each stands the opening that it comes
--- from. And what a sum covers (document 01, 'Reading'). Assumes nothing.
+-- Any history of a reader on a flash that stays as it is: calls one after the other, refused ones among them, each on the reader
+-- that the one before handed back. Readers are kept in slots and brought back from them. Beside each stands the opening that it
+-- comes from. And what a sum covers (docs/RULES.md, Reading). Assumes nothing.
 use mathlib.Core.Path.{_≡_}
 use mathlib.Core.Bool.{true, cond}
 use mathlib.Core.List.{List, [], _∷_, _++_}

@@ -1,4 +1,4 @@
--- What a skip comes to (document 01, 'Reading'), by what reads to the end would find. Assumes nothing.
+-- What a skip comes to (docs/RULES.md, Reading), by what reads to the end would find. Assumes nothing.
 use mathlib.Core.Path.{_≡_}
 use mathlib.Core.Bool.{false, cond}
 use mathlib.Core.List.{List}

@@ -64,12 +64,11 @@ module _ (bytes ends : List ℕ) (bound : Bound) (upper : List ℕ) (c : Cursor)
     pub next-settled : ch ≡ check.Fine → (p : Pass) → p ≡ settled bytes ends bound upper (c .places)
         → (a : NextAnswer) → a ≡ answerTo bytes ends (p .lowest) (length key) (length value)
         → (x y : List ℕ)
-        → (x ≡ putBy (answerTo bytes ends (p .lowest) (length key) (length value)) (lowestKey bytes ends (p .lowest)) key)
-        × (y ≡ putBy (answerTo bytes ends (p .lowest) (length key) (length value)) (lowestValue bytes ends (p .lowest)) value)
+        → (x ≡ putBy a (lowestKey bytes ends (p .lowest)) key) × (y ≡ putBy a (lowestValue bytes ends (p .lowest)) value)
         → (row : List RunPlace) → row ≡ placesBy a p → Answered (record { cursor = record { places = row }; answer = a }) x y
     unfolding nextOf nextBy nextKey nextValue movedBy
     next-settled q p s a e x y d row r =
-        (rw (← is, q, ← s, r, e), (rw (← is, q, ← s) (d .0), rw (← is, q, ← s) (d .1)))
+        (rw (← is, q, ← s, r, e), (rw (← is, q, ← s) (rw e at (d .0)), rw (← is, q, ← s) (rw e at (d .1))))
 
 -- ---- new
 

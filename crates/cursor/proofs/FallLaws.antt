@@ -14,7 +14,7 @@ use Rattle.run.specs.declared.bound.Bound.{Bound}
 use Rattle.keys.specs.declared.order.Ordering.{Ordering}
 use Rattle.run.specs.declared.record.Record.{Record}
 use Rattle.run.proofs.FitLaws.{head-lies}
-use Rattle.run.proofs.PartLaws.{part-fits}
+use Rattle.slices.proofs.PartLaws.{part-fits}
 use Rattle.cursor.specs.Pass.{withGone, passOf}
 use Rattle.cursor.specs.Places.{gone, atPlace, placeOf}
 use Rattle.cursor.specs.Runs.{startOf, endOf, runOf}

@@ -15,7 +15,7 @@ use Rattle.run.specs.declared.bound.Bound.{Bound}
 use Rattle.keys.specs.declared.order.Ordering.{Ordering}
 use Rattle.run.specs.declared.record.Record.{Record}
 use Rattle.run.proofs.FitLaws.{head-lies}
-use Rattle.run.proofs.PartLaws.{part-fits}
+use Rattle.slices.proofs.PartLaws.{part-fits}
 use Rattle.cursor.specs.Checks.{goodRuns, goodPlace, goodFrom, goodPlaces, nextCheck}
 use Rattle.cursor.specs.Pass.{passOf}
 use Rattle.cursor.specs.Places.{gone, atPlace, placeOf}

@@ -2,17 +2,18 @@
 use mathlib.Core.Path.{_≡_, refl, sym, _∙_, ap, ap₂, subst}
 use mathlib.Core.Bool.{true}
 use mathlib.Core.List.{List, [], _∷_}
-use Prim.Native.Nat.{ℕ, _-_, _≤_}
+use Prim.Native.Nat.{ℕ, _≤_}
 use native.Mathlib.Omega.{arith}
-use lib.ListN.{length, take, drop, length-append, length-drop}
-use lib.Seq.{take-at}
+use lib.ListN.{length, take}
 use Rattle.types.specs.Build.{maxKeySize, maxValueSize, fileCount}
+use Rattle.slices.specs.Patch.{over}
+use Rattle.slices.proofs.PatchLaws.{length-over, part-over}
 use Rattle.run.specs.Items.{Item}
 use Rattle.run.specs.declared.bound.Bound.{Bound}
 use Rattle.run.specs.declared.record.Record.{Record}
 use Rattle.cursor.specs.Checks.{goodRuns}
 use Rattle.cursor.specs.Merged.{Pair, Hands, end, entry}
-use Rattle.cursor.specs.Next.{answerBy, answerTo, placesBy, putIn, putBy, movedBy, nextBy, nextOf, nextKey, nextValue}
+use Rattle.cursor.specs.Next.{answerBy, answerTo, placesBy, putBy, movedBy, nextBy, nextOf, nextKey, nextValue}
 use Rattle.cursor.specs.Pass.{lowestKey, lowestValue}
 use Rattle.cursor.specs.Settle.{settled}
 use Rattle.cursor.specs.declared.answer.Moved.{Moved}
@@ -29,16 +30,6 @@ use Rattle.cursor.proofs.NextLaws.{fitted-whole}
 
 abbrev paired : List ℕ → List ℕ → Pair
 paired key value = record { key = key; value = value }
-
--- ---- a buffer after bytes were put into it
-
-length-put : (bytes buffer : List ℕ) → length bytes ≤ length buffer → length (putIn bytes buffer) ≡ length buffer
-unfolding putIn
-length-put bytes buffer h = rw (length-append bytes (drop (length bytes) buffer), length-drop (length bytes) buffer) (omega arith)
-
-take-put : (bytes buffer : List ℕ) → take (length bytes) (putIn bytes buffer) ≡ bytes
-unfolding putIn
-take-put bytes buffer = take-at bytes (drop (length bytes) buffer) (length bytes) refl
 
 module _ (bytes ends : List ℕ) (bound : Bound) (upper : List ℕ) (good : goodRuns (length bytes) ends ≡ true) where
   few : length ends ≤ fileCount
@@ -76,11 +67,11 @@ module _ (bytes ends : List ℕ) (bound : Bound) (upper : List ℕ) (good : good
       unfolding movedBy placesBy
       entry-moved = moved ∙ rw entry-by
 
-      entry-key : nextKey bytes ends bound upper c key value ≡ putIn (pairOf bytes ends j x .key) key
+      entry-key : nextKey bytes ends bound upper c key value ≡ over (pairOf bytes ends j x .key) key
       unfolding nextKey putBy lowestKey
       entry-key = rw (entry-moved, e)
 
-      entry-value : nextValue bytes ends bound upper c key value ≡ putIn (pairOf bytes ends j x .value) value
+      entry-value : nextValue bytes ends bound upper c key value ≡ over (pairOf bytes ends j x .value) value
       unfolding nextValue putBy lowestValue
       entry-value = rw (entry-moved, e)
 
@@ -107,11 +98,11 @@ module _ (bytes ends : List ℕ) (bound : Bound) (upper : List ℕ) (good : good
         let ek = entry-key c key value g j x e (t .fits) keyRoom valueRoom in
         let ev = entry-value c key value g j x e (t .fits) keyRoom valueRoom in
         let at : next-cursor c key value ≡ record { places = settled bytes ends bound upper (c .places) .stepped } = ap (λ (y : Moved). y .cursor) m in
-        let kl : length (putIn k key) ≡ length key = length-put k key (omega (arith, t .fits .key)) in
-        let vl : length (putIn v value) ≡ length value = length-put v value (omega (arith, t .fits .value)) in
+        let kl : length (over k key) ≡ length key = length-over k key in
+        let vl : length (over v value) ≡ length value = length-over v value in
         let rest = later (next-cursor c key value) (nextKey bytes ends bound upper c key value) (nextValue bytes ends bound upper c key value) (t .rest)
         (rw at s) (rw at (t .left)) (rw ek (omega arith)) (rw ev (omega arith)) q in
-        let one = ap₂ paired (ap (take (length k)) ek ∙ take-put k key) (ap (take (length v)) ev ∙ take-put v value) in
+        let one = ap₂ paired (ap (take (length k)) ek ∙ part-over k key (omega (arith, t .fits .key))) (ap (take (length v)) ev ∙ part-over v value (omega (arith, t .fits .value))) in
         subst (λ (y : Pair). Hands bytes ends bound upper c key value (y ∷ pairs)) one (entry (length k) (length v) (ap (λ (y : Moved). y .answer) m) rest)
 
     -- what is to come has a first pair, so the passes find it

@@ -1,7 +1,7 @@
 -- What one run's head is to a pass: a law for each way. Assumes nothing.
 use mathlib.Core.Path.{_≡_, refl, _∙_}
 use mathlib.Core.Bool.{Bool, true, false}
-use mathlib.Core.List.{List, []}
+use mathlib.Core.List.{List}
 use mathlib.Core.Logic.{_⊎_, ⊎-elim}
 use Prim.Native.Nat.{ℕ}
 use native.Mathlib.Omega.{arith}
@@ -14,13 +14,11 @@ use Rattle.run.specs.declared.record.Record.{Record}
 use Rattle.run.specs.declared.record.Head.{Head}
 use Rattle.run.specs.declared.record.Head.the-variants as head
 use Rattle.run.proofs.record.Head as Head'
-use Rattle.cursor.specs.Pass.{againstLowest, lookBy, lookWithout, lookHead, lookAt, lowestKey, lowestValue}
+use Rattle.cursor.specs.Pass.{againstLowest, lookBy, lookWithout, lookHead, lookAt}
 use Rattle.cursor.specs.declared.look.Look.the-variants as look
 use Rattle.cursor.specs.declared.look.Lowest.{Lowest}
-use Rattle.cursor.specs.declared.look.Lowest.the-variants.{None, Found, Refused}
 use Rattle.cursor.specs.declared.place.Place.{Place}
 use Rattle.cursor.specs.declared.place.Place.the-variants.{At, Gone}
-use Rattle.cursor.proofs.look.Lowest as Lowest'
 
 module _ (run : List ℕ) (place : Place) (bound : Bound) (upper : List ℕ) (lowest : Lowest) (low : List ℕ) where
   pub look-gone : place ≡ Gone → look.Gone ≡ lookAt run place bound upper lowest low
@@ -48,17 +46,3 @@ module _ (run : List ℕ) (place : Place) (bound : Bound) (upper : List ℕ) (lo
       pub look-by : past ≡ false → (o w : Ordering) → o ≡ againstLowest lowest low key → o ≡ w → lookBy w r ≡ lookAt run place bound upper lowest low
       unfolding lookAt lookHead
       look-by q o w a l = rw (p, ← e, is, ← k, ← b, q, ← a, l)
-
--- no record was found
-module _ (bytes ends : List ℕ) where
-  pub key-none : (l : Lowest) → (tagOf Lowest'.the-type l ≡ 0) ⊎ (tagOf Lowest'.the-type l ≡ 2) → [] ≡ lowestKey bytes ends l
-  unfolding lowestKey
-  key-none None t = refl
-  key-none (Found run r) t = absurd (⊎-elim (λ w. omega arith) (λ w. omega arith) t)
-  key-none (Refused why) t = refl
-
-  pub value-none : (l : Lowest) → (tagOf Lowest'.the-type l ≡ 0) ⊎ (tagOf Lowest'.the-type l ≡ 2) → [] ≡ lowestValue bytes ends l
-  unfolding lowestValue
-  value-none None t = refl
-  value-none (Found run r) t = absurd (⊎-elim (λ w. omega arith) (λ w. omega arith) t)
-  value-none (Refused why) t = refl

@@ -20,11 +20,11 @@ use Rattle.keys.specs.declared.order.Ordering.the-variants.{Less, Equal, Greate
 use Rattle.run.specs.declared.record.Record.{Record}
 use Rattle.run.specs.declared.record.Head.the-variants as head
 use Rattle.run.proofs.FitLaws.{head-lies}
-use Rattle.run.proofs.PartLaws.{part-fits}
+use Rattle.slices.proofs.PartLaws.{part-fits}
 use Rattle.cursor.specs.Pass.{againstLowest, lowestKey, shows, withGone, withHolder, withLowest, passOf}
 use Rattle.cursor.specs.Places.{gone, atPlace, placeOf}
 use Rattle.cursor.specs.Runs.{runOf}
-use Rattle.cursor.specs.Union.{over, union}
+use Rattle.cursor.specs.Union.{laid, union}
 use Rattle.cursor.specs.declared.look.Look.the-variants as look
 use Rattle.cursor.specs.declared.look.Lowest.{Lowest}
 use Rattle.cursor.specs.declared.look.Lowest.the-variants.{None, Found, Refused}
@@ -34,7 +34,7 @@ use Rattle.cursor.specs.declared.place.RunPlace.{RunPlace}
 use Rattle.cursor.proofs.PassRule.{standing, Sees, After, whole, cut, Kept, pass-rule}
 use Rattle.cursor.proofs.PlaceLaws.{set-other, set-gone, set-there}
 use Rattle.cursor.proofs.ShowLaws.{Shows, none, shows-item, shows-at, shows-none, shows-fine}
-use Rattle.cursor.proofs.UnionLaws.{over-less, over-equal, over-greater, over-none, over-empty, union-same}
+use Rattle.cursor.proofs.UnionLaws.{laid-less, laid-equal, laid-greater, laid-none, laid-empty, union-same}
 
 -- ---- one run's items instead of others
 
@@ -47,7 +47,7 @@ instead-same f i items k e = rw (eq-eqb k i e)
 instead-other : (f : ℕ → List Item) (i : ℕ) (items : List Item) (k : ℕ) → (k ≡ i → ⊥) → instead f i items k ≡ f k
 instead-other f i items k n = rw (ne-eqb k i n)
 
-union-instead : (i : ℕ) (f : ℕ → List Item) (items : List Item) → union (suc i) (instead f i items) ≡ over items (union i f)
+union-instead : (i : ℕ) (f : ℕ → List Item) (items : List Item) → union (suc i) (instead f i items) ≡ laid items (union i f)
 unfolding union
 union-instead i f items =
     rw (instead-same f i items i refl, union-same i (instead f i items) f (λ k b. instead-other f i items k (λ e. omega arith)))
@@ -117,7 +117,7 @@ module _ (bytes ends : List ℕ) (bound : Bound) (upper : List ℕ) where
       module _ (e : items i ≡ []) where
         union-gone : (f : ℕ → List Item) → f i ≡ [] → union (suc i) f ≡ union i f
         unfolding union
-        union-gone f q = rw q (over-empty (union i f))
+        union-gone f q = rw q (laid-empty (union i f))
 
         gone-top : (l : Lowest) → Tops i p l → Tops (suc i) (withGone i p) l
         gone-top None t = union-gone items e ∙ t
@@ -139,15 +139,15 @@ module _ (bytes ends : List ℕ) (bound : Bound) (upper : List ℕ) where
 
       module _ (at : ℕ) (r : Record) (o : Ordering) (s : Sees bytes ends bound upper i p at r o) (mine : List Item)
           (e : items i ≡ itemOf bytes ends i r ∷ mine) (g : Shows (runOf bytes ends i) bound upper (At (r .next)) mine) where
-        union-here : (f : ℕ → List Item) → f i ≡ itemOf bytes ends i r ∷ mine → union (suc i) f ≡ over (itemOf bytes ends i r ∷ mine) (union i f)
+        union-here : (f : ℕ → List Item) → f i ≡ itemOf bytes ends i r ∷ mine → union (suc i) f ≡ laid (itemOf bytes ends i r ∷ mine) (union i f)
         unfolding union
         union-here f q = rw q
 
         below-first : (l : Lowest) → Tops i p l → againstLowest l (lowestKey bytes ends l) (keyIn (runOf bytes ends i) r) ≡ Less
-            → over (itemOf bytes ends i r ∷ mine) (union i items) ≡ itemOf bytes ends i r ∷ over mine (union i items)
+            → laid (itemOf bytes ends i r ∷ mine) (union i items) ≡ itemOf bytes ends i r ∷ laid mine (union i items)
         unfolding againstLowest lowestKey
-        below-first None t q = rw t (over-none (itemOf bytes ends i r ∷ mine) ∙ ap (λ (l : List Item). itemOf bytes ends i r ∷ l) (sym (over-none mine)))
-        below-first (Found j x) t q = rw (t .first) (over-less (itemOf bytes ends i r) (itemOf bytes ends j x) mine (union i (t .rest)) q)
+        below-first None t q = rw t (laid-none (itemOf bytes ends i r ∷ mine) ∙ ap (λ (l : List Item). itemOf bytes ends i r ∷ l) (sym (laid-none mine)))
+        below-first (Found j x) t q = rw (t .first) (laid-less (itemOf bytes ends i r) (itemOf bytes ends j x) mine (union i (t .rest)) q)
         below-first (Refused why) t q = absurd t
 
         takes-below : standing bytes ends bound upper i p r ≡ Less → Takes (suc i) (withLowest i r p)
@@ -174,7 +174,7 @@ module _ (bytes ends : List ℕ) (bound : Bound) (upper : List ℕ) where
               left = left-set (t .rest) (p .stepped) i (a .0) (r .next) mine (a .1) g (t .left);
               ahead = λ k b. instead-other (t .rest) i mine k (λ z. omega arith) ∙ t .ahead k (omega arith);
               first = union-here items e
-                  ∙ rw (t .first) (over-equal (itemOf bytes ends i r) (itemOf bytes ends j x) mine (union i (t .rest)) q)
+                  ∙ rw (t .first) (laid-equal (itemOf bytes ends i r) (itemOf bytes ends j x) mine (union i (t .rest)) q)
                   ∙ ap (λ (l : List Item). itemOf bytes ends i r ∷ l) (sym (union-instead i (t .rest) mine));
             }
         level-top (Refused why) t q = absurd t
@@ -191,7 +191,7 @@ module _ (bytes ends : List ℕ) (bound : Bound) (upper : List ℕ) where
           left = t .left;
           ahead = λ k b. t .ahead k (omega arith);
           first = union-here items e
-              ∙ rw (t .first) (over-greater (itemOf bytes ends i r) (itemOf bytes ends j x) mine (union i (t .rest)) q)
+              ∙ rw (t .first) (laid-greater (itemOf bytes ends i r) (itemOf bytes ends j x) mine (union i (t .rest)) q)
               ∙ ap (λ (l : List Item). itemOf bytes ends j x ∷ l) (sym (union-here (t .rest) (t .ahead i (le-refl i) ∙ e)));
         }
         above-top (Refused why) t q = absurd t

@@ -1,19 +1,20 @@
 -- What a settled pass answers: the room that an entry has, and what any other answer leaves. Assumes nothing.
-use mathlib.Core.Path.{_≡_, refl, sym, _∙_}
-use mathlib.Core.Bool.{Bool, true, false, cond}
-use mathlib.Core.List.{List, _++_}
+use mathlib.Core.Path.{_≡_, refl, ap, ap₂, _∙_}
+use mathlib.Core.List.{List}
 use mathlib.Core.Logic.{_⊎_, ⊎-elim}
-use Prim.Native.Nat.{ℕ, suc, _+_, _≤_, _<_}
-use native.Mathlib.Numerals.{add-one}
+use Prim.Native.Nat.{ℕ, _≤_, _<_}
 use native.Mathlib.Omega.{arith}
-use lib.Dec.{ltb}
-use lib.ListN.{length, getD, set, take, drop}
-use lib.Seq.{drop-cons, set-at, take-suc, append-snoc, length-take-le}
-use borrow.Author.Tests.{lt-ltb, le-ltb, ltb-false}
+use lib.ListN.{length}
+use borrow.Author.Tests.{lt-ltb, le-ltb}
 use denote.Enum.Declared.{tagOf}
+use Rattle.types.specs.declared.refusal.Refusal.{Refusal}
 use Rattle.types.specs.declared.refusal.Refusal.the-variants.{KeyBufferTooSmall, ValueBufferTooSmall}
-use Rattle.cursor.specs.Next.{fitted, answerBy, answerTo, placesBy, putIn, putBy}
+use Rattle.slices.specs.Patch.{over}
+use Rattle.run.specs.Records.{keyIn, valueIn}
+use Rattle.run.specs.declared.record.Record.{Record}
+use Rattle.cursor.specs.Next.{fitted, answerBy, answerTo, placesBy, putBy}
 use Rattle.cursor.specs.Pass.{lowestKey, lowestValue}
+use Rattle.cursor.specs.Runs.{runOf}
 use Rattle.cursor.specs.declared.answer.NextAnswer.{NextAnswer}
 use Rattle.cursor.specs.declared.answer.NextAnswer.the-variants.{End, Entry, Refused}
 use Rattle.cursor.specs.declared.look.Lowest.{Lowest}
@@ -37,28 +38,6 @@ module _ (keyRoom valueRoom keyLen valueLen : ℕ) where
     unfolding fitted
     fitted-whole h = rw (le-ltb keyRoom keyLen key, le-ltb valueRoom valueLen h)
 
-  -- an entry has room
-  abbrev Room : NextAnswer → Type 0
-  Room End = Unit {0}
-  Room (Entry k v) = (keyLen ≤ keyRoom) × (valueLen ≤ valueRoom)
-  Room (Refused why) = Unit {0}
-
-  fitted-by : (k v : Bool) → ltb keyRoom keyLen ≡ k → ltb valueRoom valueLen ≡ v
-      → Room (cond k (Refused KeyBufferTooSmall) (cond v (Refused ValueBufferTooSmall) (Entry keyLen valueLen)))
-  fitted-by true v p q = tt
-  fitted-by false true p q = tt
-  fitted-by false false p q = (ltb-false keyRoom keyLen p, ltb-false valueRoom valueLen q)
-
-  answer-room : (l : Lowest) → Room (answerBy l keyRoom valueRoom keyLen valueLen)
-  unfolding answerBy fitted
-  answer-room low.None = tt
-  answer-room (low.Found run r) = fitted-by _ _ refl refl
-  answer-room (low.Refused why) = tt
-
-  pub entry-room : (l : Lowest) (a : NextAnswer) (k v : ℕ) → a ≡ answerBy l keyRoom valueRoom keyLen valueLen → a ≡ Entry k v
-      → (keyLen ≤ keyRoom) × (valueLen ≤ valueRoom)
-  entry-room l a k v e q = rw (sym e ∙ q) at (answer-room l)
-
 -- ---- what an answer other than an entry leaves
 
 pub places-still : (a : NextAnswer) (p : Pass) → (tagOf NextAnswer'.the-type a ≡ 0) ⊎ (tagOf NextAnswer'.the-type a ≡ 2) → p .places ≡ placesBy a p
@@ -67,40 +46,51 @@ places-still End p t = refl
 places-still (Entry k v) p t = absurd (⊎-elim (λ w. omega arith) (λ w. omega arith) t)
 places-still (Refused why) p t = refl
 
-pub put-still : (a : NextAnswer) (bytes buffer : List ℕ) → (tagOf NextAnswer'.the-type a ≡ 0) ⊎ (tagOf NextAnswer'.the-type a ≡ 2)
-    → buffer ≡ putBy a bytes buffer
-unfolding putBy
-put-still End bytes buffer t = refl
-put-still (Entry k v) bytes buffer t = absurd (⊎-elim (λ w. omega arith) (λ w. omega arith) t)
-put-still (Refused why) bytes buffer t = refl
+-- ---- a record handed out
 
--- ---- a copy to a buffer's start
+module _ (key value : List ℕ) where
+  -- the answer to a record with such a key and value, and what the two buffers then are
+  abbrev Handed : List ℕ → List ℕ → NextAnswer → List ℕ → List ℕ → Type 0
+  Handed k v a x y =
+      (a ≡ fitted (length key) (length value) (length k) (length v)) × ((x ≡ putBy a k key) × (y ≡ putBy a v value))
 
-pub put-more : (bytes start buffer : List ℕ) (i : ℕ) → buffer ≡ take i bytes ++ drop i start → i < length bytes → i < length start
-    → set buffer i (getD bytes i 0) ≡ take (i + 1) bytes ++ drop (i + 1) start
-put-more bytes start buffer i e b s =
-    let t : length (take i bytes) ≡ i = length-take-le i bytes (omega arith) in
-    rw (e, drop-cons start i 0, add-one i, take-suc bytes i 0, append-snoc)
-    (set-at (take i bytes) (getD start i 0) (drop (suc i) start) (getD bytes i 0) i t)
+  module _ (k v k′ v′ : List ℕ) (is-key : k′ ≡ k) (is-value : v′ ≡ v) where
+    pub handed-short-key : length key < length k′ → Handed k v (Refused KeyBufferTooSmall) key value
+    unfolding putBy
+    handed-short-key h = (fitted-short-key (length key) (length value) (length k) (length v) (rw (← is-key) h), (refl, refl))
+
+    module _ (room : length k′ ≤ length key) where
+      pub handed-short-value : length value < length v′ → Handed k v (Refused ValueBufferTooSmall) key value
+      unfolding putBy
+      handed-short-value h =
+          (fitted-short-value (length key) (length value) (length k) (length v) (rw (← is-key) room) (rw (← is-value) h), (refl, refl))
+
+      pub handed-whole : length v′ ≤ length value → (x y : List ℕ) → x ≡ over k′ key → y ≡ over v′ value
+          → Handed k v (Entry (length k′) (length v′)) x y
+      unfolding putBy
+      handed-whole h x y p q =
+          let fit = fitted-whole (length key) (length value) (length k) (length v) (rw (← is-key) room) (rw (← is-value) h) in
+          let lens : Entry (length k′) (length v′) ≡ Entry (length k) (length v) = ap₂ (λ (a b : List ℕ). Entry (length a) (length b)) is-key is-value in
+          (lens ∙ fit, (p ∙ ap (λ (l : List ℕ). over l key) is-key, q ∙ ap (λ (l : List ℕ). over l value) is-value))
 
 -- ---- the whole delivery
 
-module _ (bytes ends : List ℕ) (l : Lowest) (key value k v : List ℕ) (is-key : k ≡ lowestKey bytes ends l)
-    (is-value : v ≡ lowestValue bytes ends l) (a : NextAnswer) (is : a ≡ answerBy l (length key) (length value) (length k) (length v)) where
-  answers : a ≡ answerTo bytes ends l (length key) (length value)
-  answers = is ∙ rw (is-key, is-value)
-
-  -- the answer, and what the two buffers then are
-  abbrev Delivered : List ℕ → List ℕ → Type 0
-  Delivered after-key after-value =
+module _ (bytes ends : List ℕ) (l : Lowest) (key value : List ℕ) where
+  -- the answer to what a settled pass found, and what the two buffers then are
+  abbrev Delivered : NextAnswer → List ℕ → List ℕ → Type 0
+  Delivered a x y =
       (a ≡ answerTo bytes ends l (length key) (length value))
-      × ((after-key ≡ putBy (answerTo bytes ends l (length key) (length value)) (lowestKey bytes ends l) key)
-      × (after-value ≡ putBy (answerTo bytes ends l (length key) (length value)) (lowestValue bytes ends l) value))
+      × ((x ≡ putBy a (lowestKey bytes ends l) key) × (y ≡ putBy a (lowestValue bytes ends l) value))
 
-  pub delivered-none : (tagOf NextAnswer'.the-type a ≡ 0) ⊎ (tagOf NextAnswer'.the-type a ≡ 2) → Delivered key value
-  delivered-none t =
-      (answers, (rw (← answers) (put-still a (lowestKey bytes ends l) key t), rw (← answers) (put-still a (lowestValue bytes ends l) value t)))
+  pub delivered-none : l ≡ low.None → Delivered End key value
+  unfolding answerBy putBy
+  delivered-none e = (rw e, (refl, refl))
 
-  pub delivered-entry : (m n : ℕ) → a ≡ Entry m n → (x y : List ℕ) → x ≡ putIn k key → y ≡ putIn v value → Delivered x y
-  unfolding putBy
-  delivered-entry m n e x y p q = (answers, (rw (← answers, e, p, is-key), rw (← answers, e, q, is-value)))
+  pub delivered-refused : (why : Refusal) → l ≡ low.Refused why → Delivered (Refused why) key value
+  unfolding answerBy putBy
+  delivered-refused why e = (rw e, (refl, refl))
+
+  pub delivered-found : (i : ℕ) (r : Record) → l ≡ low.Found i r → (run : List ℕ) → run ≡ runOf bytes ends i
+      → (a : NextAnswer) (x y : List ℕ) → Handed key value (keyIn run r) (valueIn run r) a x y → Delivered a x y
+  unfolding answerBy lowestKey lowestValue
+  delivered-found i r e run q a x y h = rw e (rw q at h)

@@ -13,9 +13,9 @@ use Rattle.run.specs.Items.{Item, Reads, Rising, Said, nothing, saidIn}
 use Rattle.run.specs.declared.bound.Bound.{Bound}
 use Rattle.run.specs.declared.search.Sought.{Sought}
 use Rattle.run.specs.declared.search.Sought.the-variants as sought
-use Rattle.run.proofs.PartLaws.{part-fits}
+use Rattle.slices.proofs.PartLaws.{part-fits}
 use Rattle.cursor.specs.Checks.{goodRuns, newCheck}
-use Rattle.cursor.specs.Merged.{orElse, said, reaches, between}
+use Rattle.cursor.specs.Merged.{orElse, said, between}
 use Rattle.cursor.specs.New.{placed, newFrom, newBy, newOf}
 use Rattle.cursor.specs.Places.{gone, atPlace, placeOf, allGone}
 use Rattle.cursor.specs.Runs.{startOf, endOf, runOf}
@@ -24,7 +24,7 @@ use Rattle.cursor.specs.declared.answer.NewAnswer.the-variants.{Ready}
 use Rattle.cursor.specs.declared.answer.NewCursor.{NewCursor}
 use Rattle.cursor.specs.declared.place.Place.the-variants.{At, Gone}
 use Rattle.cursor.specs.declared.place.RunPlace.{RunPlace}
-use Rattle.cursor.proofs.BoundLaws.{within}
+use Rattle.cursor.proofs.BoundLaws.{within, reaches, asked-between}
 use Rattle.cursor.proofs.GoodLaws.{Good, good-set}
 use Rattle.cursor.proofs.LiveLaws.{rising-kept, said-kept}
 use Rattle.cursor.proofs.MergeLaws.{Left}
@@ -41,6 +41,10 @@ module _ (low : Bound) (lower : List ℕ) (high : Bound) (upper : List ℕ) wher
   abbrev pub taken : List Item → List Item
   taken items = kept (within high upper) (kept (reaches low lower) items)
 
+  -- whether both bounds take a key
+  abbrev asked : List ℕ → Bool
+  asked key = reaches low lower key && within high upper key
+
   pub rising-taken : (items : List Item) → Rising items → Rising (taken items)
   rising-taken items h = rising-kept (within high upper) (kept (reaches low lower) items) (rising-kept (reaches low lower) items h)
 
@@ -50,7 +54,7 @@ module _ (low : Bound) (lower : List ℕ) (high : Bound) (upper : List ℕ) wher
   said-cond false true s = refl
   said-cond false false s = refl
 
-  pub said-taken : (key : List ℕ) (items : List Item) → saidIn key (taken items) ≡ cond (between low lower high upper key) (saidIn key items) nothing
+  said-taken : (key : List ℕ) (items : List Item) → saidIn key (taken items) ≡ cond (asked key) (saidIn key items) nothing
   said-taken key items =
       said-kept (within high upper) key (kept (reaches low lower) items)
       ∙ rw (said-kept (reaches low lower) key items) (said-cond (reaches low lower key) (within high upper key) (saidIn key items))
@@ -60,17 +64,22 @@ module _ (low : Bound) (lower : List ℕ) (high : Bound) (upper : List ℕ) wher
   orElse-cond true s t = refl
   orElse-cond false s t = refl
 
-  -- what the runs together say of a key within the bounds
-  pub said-between : (key : List ℕ) (n : ℕ) (items : ℕ → List Item)
-      → said key n (λ i. taken (items i)) ≡ cond (between low lower high upper key) (said key n items) nothing
+  said-asked : (key : List ℕ) (n : ℕ) (items : ℕ → List Item)
+      → said key n (λ i. taken (items i)) ≡ cond (asked key) (said key n items) nothing
   unfolding said
-  said-between key zero items = by (between low lower high upper key)
+  said-asked key zero items = by (asked key)
     where
       by : (b : Bool) → nothing ≡ cond b nothing nothing
       by true = refl
       by false = refl
-  said-between key (suc n) items =
-      rw (said-taken key (items n), said-between key n items) (orElse-cond (between low lower high upper key) (saidIn key (items n)) (said key n items))
+  said-asked key (suc n) items =
+      rw (said-taken key (items n), said-asked key n items) (orElse-cond (asked key) (saidIn key (items n)) (said key n items))
+
+  -- what the runs together say of a key within the bounds
+  pub said-between : (key : List ℕ) (n : ℕ) (items : ℕ → List Item)
+      → said key n (λ i. taken (items i)) ≡ cond (between low lower high upper key) (said key n items) nothing
+  said-between key n items =
+      said-asked key n items ∙ ap (λ (b : Bool). cond b (said key n items) nothing) (asked-between low lower high upper key)
 
   module _ (bytes ends : List ℕ) (items : ℕ → List Item) (reads : (i : ℕ) → i < length ends → Reads (runOf bytes ends i) 0 (items i))
       (rising : (i : ℕ) → i < length ends → Rising (items i)) (few : length ends ≤ fileCount) where

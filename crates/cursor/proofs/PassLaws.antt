@@ -6,7 +6,7 @@ use native.Mathlib.Numerals.{add-one}
 use native.Mathlib.Omega.{arith}
 use lib.ListN.{length, set}
 use Rattle.types.specs.declared.refusal.Refusal.{Refusal}
-use Rattle.run.specs.Parts.{partOf}
+use Rattle.slices.specs.Parts.{partTo}
 use Rattle.run.specs.Records.{keyIn}
 use Rattle.run.specs.declared.bound.Bound.{Bound}
 use Rattle.run.specs.declared.record.Record.{Record}
@@ -34,7 +34,7 @@ module _ (bytes ends : List ℕ) (bound : Bound) (upper : List ℕ) (answer : Pa
     unfolding passFrom
     all-seen h = let z : length ends - i ≡ 0 = omega arith in rw z at (rest .comes)
 
-    module _ (more : i < length ends) (run : List ℕ) (r : run ≡ partOf bytes from (endOf ends i))
+    module _ (more : i < length ends) (run : List ℕ) (r : run ≡ partTo bytes from (endOf ends i))
         (l : Look) (is : l ≡ lookAt run (placeOf (p .places) i) bound upper (p .lowest) low) where
       -- the look is what run i shows
       seen : l ≡ shows bytes ends bound upper i p

@@ -21,14 +21,13 @@ use Rattle.run.specs.declared.record.Head.the-variants as head
 use Rattle.run.specs.declared.search.Sought.{Sought}
 use Rattle.run.specs.declared.search.Sought.the-variants as sought
 use Rattle.run.proofs.FitLaws.{head-lies}
-use Rattle.cursor.specs.Merged.{reachesBy, reaches}
 use Rattle.cursor.specs.Pass.{lookBy, lookHead, lookAt}
 use Rattle.cursor.specs.Union.{kept}
 use Rattle.cursor.specs.declared.look.Look.the-variants as look
 use Rattle.cursor.specs.declared.look.Lowest.{Lowest}
 use Rattle.cursor.specs.declared.place.Place.{Place}
 use Rattle.cursor.specs.declared.place.Place.the-variants.{At, Gone}
-use Rattle.cursor.proofs.BoundLaws.{within, kept-past, kept-unbounded, kept-reached}
+use Rattle.cursor.proofs.BoundLaws.{within, kept-past, reachesBy, reaches, kept-unbounded, kept-reached}
 use Rattle.cursor.proofs.PlaceLaws.{at-gone}
 
 module _ (run : List ℕ) (bound : Bound) (upper : List ℕ) where

@@ -4,17 +4,22 @@ use mathlib.Core.List.{map, flatten}
 use Rattle.types.specs.Bytes.{word}
 use Rattle.run.specs.Bounds.{pastBy}
 use Rattle.keys.specs.Keys.{compareKeys}
-use Rattle.run.specs.Parts.{partOf}
+use Rattle.slices.specs.Parts.{partTo}
+use Rattle.slices.specs.Patch.{over}
 use Rattle.run.specs.Records.{bodyAt, headBy, headAt}
 use Rattle.run.specs.Search.{soughtBy, soughtHead, soughtFrom, soughtIn}
 use Rattle.cursor.specs.Checks.{risingEnds, goodRuns, goodPlace, goodFrom, goodPlaces, newCheck, nextCheck}
 use Rattle.cursor.specs.New.{placed, newFrom, newBy, newOf}
-use Rattle.cursor.specs.Next.{fitted, answerBy, placesBy, putIn, putBy, movedBy, nextBy, nextOf, nextKey, nextValue}
+use Rattle.cursor.specs.Next.{fitted, answerBy, placesBy, putBy, movedBy, nextBy, nextOf, nextKey, nextValue}
 use Rattle.cursor.specs.Pass.{againstLowest, lookBy, lookHead, lookAt, lowestKey, lowestValue, shows, change, passFrom, passOf}
 use Rattle.cursor.specs.Runs.{startOf}
 use Rattle.cursor.specs.Settle.{isHidden, leftAt, sumTo, left, settleFrom, settled}
 use Rattle.cursor.specs.Starred.{liveB, liveC, bothRuns, endsFrom, shownKey, shownValue, placesIn, outcomeOf, outcomesFrom, outcomes, given, expected, call, roomForAll, noRoomFirst, starred}
 
 pub starred-hold : map outcomes starred ≡ map expected starred
-unfolding word pastBy compareKeys partOf bodyAt headBy headAt soughtBy soughtHead soughtFrom soughtIn risingEnds goodRuns goodPlace goodFrom goodPlaces newCheck nextCheck placed newFrom newBy newOf fitted answerBy placesBy putIn putBy movedBy nextBy nextOf nextKey nextValue againstLowest lookBy lookHead lookAt lowestKey lowestValue shows change passFrom passOf startOf isHidden leftAt sumTo left settleFrom settled liveB liveC bothRuns flatten endsFrom shownKey shownValue placesIn outcomeOf outcomesFrom outcomes given expected call roomForAll noRoomFirst starred
+unfolding word pastBy compareKeys partTo bodyAt headBy headAt soughtBy soughtHead soughtFrom soughtIn risingEnds goodRuns goodPlace goodFrom
+    goodPlaces newCheck nextCheck placed newFrom newBy newOf fitted answerBy placesBy over putBy movedBy nextBy nextOf nextKey nextValue
+    againstLowest lookBy lookHead lookAt lowestKey lowestValue shows change passFrom passOf startOf isHidden leftAt sumTo left settleFrom
+    settled liveB liveC bothRuns flatten endsFrom shownKey shownValue placesIn outcomeOf outcomesFrom outcomes given expected call
+    roomForAll noRoomFirst starred
 starred-hold = refl

@@ -11,31 +11,31 @@ use Rattle.keys.specs.declared.order.Ordering.{Ordering}
 use Rattle.keys.specs.declared.order.Ordering.the-variants.{Less, Equal, Greater}
 use Rattle.keys.proofs.OrderLaws.{compare-equal, less-less, greater-less}
 use Rattle.cursor.specs.Merged.{orElse, said}
-use Rattle.cursor.specs.Union.{overFirst, over, union}
+use Rattle.cursor.specs.Union.{laidFirst, laid, union}
 
 -- ---- an item laid over
 
 module _ (x y : Item) (newer older : List Item) where
-  pub over-less : compareKeys (x .key) (y .key) ≡ Less → over (x ∷ newer) (y ∷ older) ≡ x ∷ over newer (y ∷ older)
-  unfolding over overFirst
-  over-less q = rw q
+  pub laid-less : compareKeys (x .key) (y .key) ≡ Less → laid (x ∷ newer) (y ∷ older) ≡ x ∷ laid newer (y ∷ older)
+  unfolding laid laidFirst
+  laid-less q = rw q
 
-  pub over-equal : compareKeys (x .key) (y .key) ≡ Equal → over (x ∷ newer) (y ∷ older) ≡ x ∷ over newer older
-  unfolding over overFirst
-  over-equal q = rw q
+  pub laid-equal : compareKeys (x .key) (y .key) ≡ Equal → laid (x ∷ newer) (y ∷ older) ≡ x ∷ laid newer older
+  unfolding laid laidFirst
+  laid-equal q = rw q
 
-  pub over-greater : compareKeys (x .key) (y .key) ≡ Greater → over (x ∷ newer) (y ∷ older) ≡ y ∷ over (x ∷ newer) older
-  unfolding over overFirst
-  over-greater q = rw q
+  pub laid-greater : compareKeys (x .key) (y .key) ≡ Greater → laid (x ∷ newer) (y ∷ older) ≡ y ∷ laid (x ∷ newer) older
+  unfolding laid laidFirst
+  laid-greater q = rw q
 
-pub over-none : (newer : List Item) → over newer [] ≡ newer
-unfolding over overFirst
-over-none [] = refl
-over-none (x ∷ newer) = refl
+pub laid-none : (newer : List Item) → laid newer [] ≡ newer
+unfolding laid laidFirst
+laid-none [] = refl
+laid-none (x ∷ newer) = refl
 
-pub over-empty : (older : List Item) → over [] older ≡ older
-unfolding over
-over-empty older = refl
+pub laid-empty : (older : List Item) → laid [] older ≡ older
+unfolding laid
+laid-empty older = refl
 
 -- ---- cases of the order
 
@@ -46,19 +46,19 @@ module _ (P : List Item → List Item → Type 0)
     (less : (x y : Item) (newer older : List Item) → compareKeys (x .key) (y .key) ≡ Less → P newer (y ∷ older) → P (x ∷ newer) (y ∷ older))
     (equal : (x y : Item) (newer older : List Item) → compareKeys (x .key) (y .key) ≡ Equal → P newer older → P (x ∷ newer) (y ∷ older))
     (greater : (x y : Item) (newer older : List Item) → compareKeys (x .key) (y .key) ≡ Greater → P (x ∷ newer) older → P (x ∷ newer) (y ∷ older)) where
-  over-by : (x y : Item) (newer older : List Item) → ((rest : List Item) → P newer rest) → P (x ∷ newer) older
+  laid-by : (x y : Item) (newer older : List Item) → ((rest : List Item) → P newer rest) → P (x ∷ newer) older
       → (o : Ordering) → compareKeys (x .key) (y .key) ≡ o → P (x ∷ newer) (y ∷ older)
-  over-by x y newer older later here Less q = less x y newer older q (later (y ∷ older))
-  over-by x y newer older later here Equal q = equal x y newer older q (later older)
-  over-by x y newer older later here Greater q = greater x y newer older q here
+  laid-by x y newer older later here Less q = less x y newer older q (later (y ∷ older))
+  laid-by x y newer older later here Equal q = equal x y newer older q (later older)
+  laid-by x y newer older later here Greater q = greater x y newer older q here
 
-  over-first : (x : Item) (newer : List Item) → ((rest : List Item) → P newer rest) → (older : List Item) → P (x ∷ newer) older
-  over-first x newer later [] = last x newer
-  over-first x newer later (y ∷ older) = over-by x y newer older later (over-first x newer later older) _ refl
+  laid-first : (x : Item) (newer : List Item) → ((rest : List Item) → P newer rest) → (older : List Item) → P (x ∷ newer) older
+  laid-first x newer later [] = last x newer
+  laid-first x newer later (y ∷ older) = laid-by x y newer older later (laid-first x newer later older) _ refl
 
-  pub over-rule : (newer older : List Item) → P newer older
-  over-rule [] older = none older
-  over-rule (x ∷ newer) older = over-first x newer (λ rest. over-rule newer rest) older
+  pub laid-rule : (newer older : List Item) → P newer older
+  laid-rule [] older = none older
+  laid-rule (x ∷ newer) older = laid-first x newer (λ rest. laid-rule newer rest) older
 
 -- ---- rising
 
@@ -68,32 +68,32 @@ unfolding Below
 below-less a b [] q h = tt
 below-less a b (x ∷ items) q h = (less-less a b (x .key) q (h .0), below-less a b items q (h .1))
 
-below-over : (key : List ℕ) (newer older : List Item) → Below key newer → Below key older → Below key (over newer older)
+below-laid : (key : List ℕ) (newer older : List Item) → Below key newer → Below key older → Below key (laid newer older)
 unfolding Below
-below-over key =
-    over-rule (λ newer older. Below key newer → Below key older → Below key (over newer older))
-    (λ older h k. rw (over-empty older) k)
-    (λ x newer h k. rw (over-none (x ∷ newer)) h)
-    (λ x y newer older q r h k. rw (over-less x y newer older q) (h .0, r (h .1) k))
-    (λ x y newer older q r h k. rw (over-equal x y newer older q) (h .0, r (h .1) (k .1)))
-    (λ x y newer older q r h k. rw (over-greater x y newer older q) (k .0, r h (k .1)))
+below-laid key =
+    laid-rule (λ newer older. Below key newer → Below key older → Below key (laid newer older))
+    (λ older h k. rw (laid-empty older) k)
+    (λ x newer h k. rw (laid-none (x ∷ newer)) h)
+    (λ x y newer older q r h k. rw (laid-less x y newer older q) (h .0, r (h .1) k))
+    (λ x y newer older q r h k. rw (laid-equal x y newer older q) (h .0, r (h .1) (k .1)))
+    (λ x y newer older q r h k. rw (laid-greater x y newer older q) (k .0, r h (k .1)))
 
-rising-over : (newer older : List Item) → Rising newer → Rising older → Rising (over newer older)
+rising-laid : (newer older : List Item) → Rising newer → Rising older → Rising (laid newer older)
 unfolding Rising Below
-rising-over =
-    over-rule (λ newer older. Rising newer → Rising older → Rising (over newer older))
-    (λ older h k. rw (over-empty older) k)
-    (λ x newer h k. rw (over-none (x ∷ newer)) h)
+rising-laid =
+    laid-rule (λ newer older. Rising newer → Rising older → Rising (laid newer older))
+    (λ older h k. rw (laid-empty older) k)
+    (λ x newer h k. rw (laid-none (x ∷ newer)) h)
     (λ x y newer older q r h k.
-    rw (over-less x y newer older q)
-    (below-over (x .key) newer (y ∷ older) (h .0) (q, below-less (x .key) (y .key) older q (k .0)), r (h .1) k))
+    rw (laid-less x y newer older q)
+    (below-laid (x .key) newer (y ∷ older) (h .0) (q, below-less (x .key) (y .key) older q (k .0)), r (h .1) k))
     (λ x y newer older q r h k.
-    rw (over-equal x y newer older q)
-    (below-over (x .key) newer older (h .0) (rw (compare-equal (x .key) (y .key) q) (k .0)), r (h .1) (k .1)))
+    rw (laid-equal x y newer older q)
+    (below-laid (x .key) newer older (h .0) (rw (compare-equal (x .key) (y .key) q) (k .0)), r (h .1) (k .1)))
     (λ x y newer older q r h k.
     let l : compareKeys (y .key) (x .key) ≡ Less = greater-less (x .key) (y .key) q in
-    rw (over-greater x y newer older q)
-    (below-over (y .key) (x ∷ newer) older (l, below-less (y .key) (x .key) newer l (h .0)) (k .0), r h (k .1)))
+    rw (laid-greater x y newer older q)
+    (below-laid (y .key) (x ∷ newer) older (l, below-less (y .key) (x .key) newer l (h .0)) (k .0), r h (k .1)))
 
 -- ---- what is said
 
@@ -158,33 +158,33 @@ said-behind key y newer older rest h e = by (compareKeys key (y .key)) refl
     by Equal q = rw (said-below key newer (rw (← compare-equal key (y .key) q) at h))
     by Greater q = e
 
-pub said-over : (key : List ℕ) (newer older : List Item) → Rising newer → saidIn key (over newer older) ≡ orElse (saidIn key newer) (saidIn key older)
+pub said-laid : (key : List ℕ) (newer older : List Item) → Rising newer → saidIn key (laid newer older) ≡ orElse (saidIn key newer) (saidIn key older)
 unfolding Rising Below saidIn orElse
-said-over key =
-    over-rule (λ newer older. Rising newer → saidIn key (over newer older) ≡ orElse (saidIn key newer) (saidIn key older))
-    (λ older h. rw (over-empty older))
-    (λ x newer h. rw (over-none (x ∷ newer)) (sym (orElse-nothing (saidIn key (x ∷ newer)))))
-    (λ x y newer older q r h. rw (over-less x y newer older q) (said-front key x newer (over newer (y ∷ older)) (saidIn key (y ∷ older)) (r (h .1))))
+said-laid key =
+    laid-rule (λ newer older. Rising newer → saidIn key (laid newer older) ≡ orElse (saidIn key newer) (saidIn key older))
+    (λ older h. rw (laid-empty older))
+    (λ x newer h. rw (laid-none (x ∷ newer)) (sym (orElse-nothing (saidIn key (x ∷ newer)))))
+    (λ x y newer older q r h. rw (laid-less x y newer older q) (said-front key x newer (laid newer (y ∷ older)) (saidIn key (y ∷ older)) (r (h .1))))
     (λ x y newer older q r h.
-    rw (over-equal x y newer older q)
-    (said-front key x newer (over newer older) (saidIn key older) (r (h .1)) ∙ said-level key x y newer older (compare-equal (x .key) (y .key) q)))
+    rw (laid-equal x y newer older q)
+    (said-front key x newer (laid newer older) (saidIn key older) (r (h .1)) ∙ said-level key x y newer older (compare-equal (x .key) (y .key) q)))
     (λ x y newer older q r h.
     let l : compareKeys (y .key) (x .key) ≡ Less = greater-less (x .key) (y .key) q in
-    rw (over-greater x y newer older q)
-    (said-behind key y (x ∷ newer) older (over (x ∷ newer) older) (l, below-less (y .key) (x .key) newer l (h .0)) (r h)))
+    rw (laid-greater x y newer older q)
+    (said-behind key y (x ∷ newer) older (laid (x ∷ newer) older) (l, below-less (y .key) (x .key) newer l (h .0)) (r h)))
 
 -- ---- all runs together
 
 pub rising-union : (n : ℕ) (items : ℕ → List Item) → ((i : ℕ) → i < n → Rising (items i)) → Rising (union n items)
 unfolding union Rising
 rising-union zero items h = tt
-rising-union (suc n) items h = rising-over (items n) (union n items) (h n (omega arith)) (rising-union n items (λ i b. h i (omega arith)))
+rising-union (suc n) items h = rising-laid (items n) (union n items) (h n (omega arith)) (rising-union n items (λ i b. h i (omega arith)))
 
 pub said-union : (key : List ℕ) (n : ℕ) (items : ℕ → List Item) → ((i : ℕ) → i < n → Rising (items i)) → saidIn key (union n items) ≡ said key n items
 unfolding union said saidIn
 said-union key zero items h = refl
 said-union key (suc n) items h =
-    said-over key (items n) (union n items) (h n (omega arith)) ∙ ap (orElse (saidIn key (items n))) (said-union key n items (λ i b. h i (omega arith)))
+    said-laid key (items n) (union n items) (h n (omega arith)) ∙ ap (orElse (saidIn key (items n))) (said-union key n items (λ i b. h i (omega arith)))
 
 -- runs that say the same item by item come together to the same
 pub union-same : (n : ℕ) (f g : ℕ → List Item) → ((i : ℕ) → i < n → f i ≡ g i) → union n f ≡ union n g

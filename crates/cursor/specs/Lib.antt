@@ -1,4 +1,5 @@
 pub mod Answers
+pub mod BoundTable
 pub mod Checks
 pub mod Merged
 pub mod New

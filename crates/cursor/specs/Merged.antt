@@ -1,18 +1,16 @@
 -- What a merge is for, said without passes and places: calls of next hand out the live keys of all runs together, the
 -- newest run deciding each key, in rising order, each once. Assumes nothing.
 use mathlib.Core.Path.{_≡_}
-use mathlib.Core.Bool.{Bool, true, false, _&&_, not}
+use mathlib.Core.Bool.{Bool, true, _&&_, not}
 use mathlib.Core.List.{List, [], _∷_}
 use mathlib.Core.Logic.{_⊎_}
 use Prim.Native.Nat.{ℕ, zero, suc}
 use lib.ListN.{length, take}
-use Rattle.run.specs.Bounds.{isPast}
 use Rattle.run.specs.Items.{Item, Said, nothing, deleted, live, saidIn}
-use Rattle.keys.specs.Keys.{compareKeys}
+use Rattle.keys.specs.Keys.{compareKeys, isBelow}
 use Rattle.run.specs.declared.bound.Bound.{Bound}
 use Rattle.run.specs.declared.bound.Bound.the-variants.{Unbounded, Included, Excluded}
-use Rattle.keys.specs.declared.order.Ordering.{Ordering}
-use Rattle.keys.specs.declared.order.Ordering.the-variants.{Less, Equal, Greater}
+use Rattle.keys.specs.declared.order.Ordering.the-variants.{Less}
 use Rattle.cursor.specs.Next.{nextOf, nextKey, nextValue}
 use Rattle.cursor.specs.declared.answer.NextAnswer.the-variants.{End, Entry}
 use Rattle.cursor.specs.declared.place.Cursor.{Cursor}
@@ -31,22 +29,21 @@ said key (suc i) items = orElse (saidIn key (items i)) (said key i items)
 
 -- ---- the bounds
 
--- whether a key that stands so to the lower bound is taken
-unfoldable pub reachesBy : Bound → Ordering → Bool
-reachesBy Unbounded o = true
-reachesBy Included Less = false
-reachesBy Included Equal = true
-reachesBy Included Greater = true
-reachesBy Excluded Less = false
-reachesBy Excluded Equal = false
-reachesBy Excluded Greater = true
+-- whether a key lies over a lower bound: it is not below an included one, and above an excluded one
+unfoldable pub overLower : Bound → List ℕ → List ℕ → Bool
+overLower Unbounded lower key = true
+overLower Included lower key = not (isBelow key lower)
+overLower Excluded lower key = isBelow lower key
 
-abbrev pub reaches : Bound → List ℕ → List ℕ → Bool
-reaches bound lower key = reachesBy bound (compareKeys key lower)
+-- whether a key lies under an upper bound: it is not above an included one, and below an excluded one
+unfoldable pub underUpper : Bound → List ℕ → List ℕ → Bool
+underUpper Unbounded upper key = true
+underUpper Included upper key = not (isBelow upper key)
+underUpper Excluded upper key = isBelow key upper
 
 -- whether a key lies within both bounds
 abbrev pub between : Bound → List ℕ → Bound → List ℕ → List ℕ → Bool
-between low lower high upper key = reaches low lower key && not (isPast high upper key)
+between low lower high upper key = overLower low lower key && underUpper high upper key
 
 -- ---- what is handed out
 

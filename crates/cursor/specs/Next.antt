@@ -1,11 +1,12 @@
 -- The next entry of the merge (docs/RULES.md, Merge): its answer, the cursor after it, and
 -- the two lent buffers. Assumes nothing.
 use mathlib.Core.Bool.{cond}
-use mathlib.Core.List.{List, _++_}
+use mathlib.Core.List.{List}
 use Prim.Native.Nat.{ℕ}
 use lib.Dec.{ltb}
-use lib.ListN.{length, drop}
+use lib.ListN.{length}
 use Rattle.types.specs.declared.refusal.Refusal.the-variants.{KeyBufferTooSmall, ValueBufferTooSmall}
+use Rattle.slices.specs.Patch.{over}
 use Rattle.run.specs.declared.bound.Bound.{Bound}
 use Rattle.cursor.specs.Checks.{nextCheck}
 use Rattle.cursor.specs.Pass.{lowestKey, lowestValue}
@@ -44,14 +45,10 @@ placesBy End p = p .places
 placesBy (Entry keyLen valueLen) p = p .stepped
 placesBy (Refused why) p = p .places
 
--- bytes at a buffer's start, the rest staying
-unfoldable pub putIn : List ℕ → List ℕ → List ℕ
-putIn bytes buffer = bytes ++ drop (length bytes) buffer
-
--- only an entry is put into a buffer
+-- only an entry is put over a buffer's start; the rest of the buffer stays
 unfoldable pub putBy : NextAnswer → List ℕ → List ℕ → List ℕ
 putBy End bytes buffer = buffer
-putBy (Entry keyLen valueLen) bytes buffer = putIn bytes buffer
+putBy (Entry keyLen valueLen) bytes buffer = over bytes buffer
 putBy (Refused why) bytes buffer = buffer
 
 -- ---- the call

@@ -3,7 +3,7 @@
 use mathlib.Core.List.{List}
 use Prim.Native.Nat.{ℕ, zero, suc}
 use lib.ListN.{getD}
-use Rattle.run.specs.Parts.{partOf}
+use Rattle.slices.specs.Parts.{partTo}
 
 abbrev pub endOf : List ℕ → ℕ → ℕ
 endOf ends i = getD ends i 0
@@ -13,4 +13,4 @@ startOf ends zero = 0
 startOf ends (suc i) = endOf ends i
 
 abbrev pub runOf : List ℕ → List ℕ → ℕ → List ℕ
-runOf bytes ends i = partOf bytes (startOf ends i) (endOf ends i)
+runOf bytes ends i = partTo bytes (startOf ends i) (endOf ends i)

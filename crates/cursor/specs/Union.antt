@@ -15,20 +15,20 @@ byOrder Equal below level above = level
 byOrder Greater below level above = above
 
 -- an item and a newer list behind it, laid over an older list; the newer list laid over any other is at hand
-unfoldable pub overFirst : Item → List Item → (List Item → List Item) → List Item → List Item
-overFirst x newer over [] = x ∷ newer
-overFirst x newer over (y ∷ older) =
-    byOrder (compareKeys (x .key) (y .key)) (x ∷ over (y ∷ older)) (x ∷ over older) (y ∷ overFirst x newer over older)
+unfoldable pub laidFirst : Item → List Item → (List Item → List Item) → List Item → List Item
+laidFirst x newer laid [] = x ∷ newer
+laidFirst x newer laid (y ∷ older) =
+    byOrder (compareKeys (x .key) (y .key)) (x ∷ laid (y ∷ older)) (x ∷ laid older) (y ∷ laidFirst x newer laid older)
 
 -- a newer list laid over an older one: the lower key first, and of equal keys the newer item alone
-unfoldable pub over : List Item → List Item → List Item
-over [] older = older
-over (x ∷ newer) older = overFirst x newer (λ rest. over newer rest) older
+unfoldable pub laid : List Item → List Item → List Item
+laid [] older = older
+laid (x ∷ newer) older = laidFirst x newer (λ rest. laid newer rest) older
 
 -- the first so many runs together
 unfoldable pub union : ℕ → (ℕ → List Item) → List Item
 union zero items = []
-union (suc i) items = over (items i) (union i items)
+union (suc i) items = laid (items i) (union i items)
 
 -- the items whose keys are taken
 unfoldable pub kept : (List ℕ → Bool) → List Item → List Item

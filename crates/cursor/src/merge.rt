@@ -93,7 +93,8 @@ impl Cursor {
         value: &mut [u8],
     ) -> Moved
         ensures answers { λ r. ⌜ r ≡ nextOf (now (runs .entry)) (now (ends .entry)) bound (now (upper .entry)) self (length (now (key .entry))) (length (now (value .entry))) ⌝ }
-        ensures bytes { λ _. ⌜ (now (key .exit) ≡ nextKey (now (runs .entry)) (now (ends .entry)) bound (now (upper .entry)) self (now (key .entry)) (now (value .entry))) × (now (value .exit) ≡ nextValue (now (runs .entry)) (now (ends .entry)) bound (now (upper .entry)) self (now (key .entry)) (now (value .entry))) ⌝ }
+        ensures bytes { λ _. ⌜ (now (key .exit) ≡ nextKey (now (runs .entry)) (now (ends .entry)) bound (now (upper .entry)) self (now (key .entry)) (now (value .entry)))
+            × (now (value .exit) ≡ nextValue (now (runs .entry)) (now (ends .entry)) bound (now (upper .entry)) self (now (key .entry)) (now (value .entry))) ⌝ }
     {
         let places = self.places;
         let check = next_check(runs.len(), ends, places);

@@ -13,8 +13,8 @@ use crate::place::GONE;
 use crate::place::Place;
 use crate::place::RunPlace;
 use run::bound::Bound;
-use run::part::part;
 use run::record::Record;
+use slices::part::part_to;
 use types::config::FILE_COUNT;
 
 // The places with the runs found gone, the same with the holders of the lowest key stepped on, and that key.
@@ -55,7 +55,7 @@ fn pass_over(
         let here = i;
         i += 1;
         let to = ends[here];
-        let run = part(runs, from, to);
+        let run = part_to(runs, from, to);
         from = to;
         let p = places[here];
         let place = p.place;

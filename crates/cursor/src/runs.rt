@@ -2,7 +2,7 @@
 ghost use mathlib.Core.Path.{_≡_};
 ghost use Prim.Native.Nat.{_-_};
 ghost use Rattle.cursor.specs.Runs.{startOf, endOf, runOf};
-use run::part::part;
+use slices::part::part_to;
 
 fn end_of(ends: &[usize], i: usize) -> usize
     ensures answers { λ r. ⌜ r ≡ endOf (now (ends .entry)) i ⌝ }
@@ -29,7 +29,7 @@ pub(crate) fn run_of<'a, 'b>(runs: &'a [u8], ends: &'b [usize], i: usize) -> &'a
 {
     let from = start_of(ends, i);
     let to = end_of(ends, i);
-    part(runs, from, to)
+    part_to(runs, from, to)
 }
 
 // How many bytes run i has.

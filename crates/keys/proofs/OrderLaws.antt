@@ -1,13 +1,14 @@
 -- The order of keys is total: a key equals itself and no other, two keys turned round stand the other way, and below
 -- goes on to below. Assumes nothing.
 use mathlib.Core.Path.{_≡_, refl, sym, _∙_, ap}
+use mathlib.Core.Bool.{Bool, true, false}
 use mathlib.Core.List.{List, [], _∷_}
 use mathlib.Core.Logic.{⊎-elim}
 use Prim.Native.Nat.{ℕ, _<_}
 use native.Mathlib.Omega.{arith}
-use borrow.Author.Tests.{lt-ltb, le-ltb}
+use borrow.Author.Tests.{lt-ltb, le-ltb, eq-eqb, ne-eqb}
 use Rattle.types.proofs.TestLaws.{le-or-lt}
-use Rattle.keys.specs.Keys.{compareKeys}
+use Rattle.keys.specs.Keys.{compareKeys, isBelow}
 use Rattle.keys.specs.declared.order.Ordering.{Ordering}
 use Rattle.keys.specs.declared.order.Ordering.the-variants.{Less, Equal, Greater}
 
@@ -101,3 +102,35 @@ greater-less a b q = compare-turned a b ∙ ap turned q
 
 pub less-greater : (a b : List ℕ) → compareKeys a b ≡ Less → compareKeys b a ≡ Greater
 less-greater a b q = compare-turned a b ∙ ap turned q
+
+-- ---- the order by itself
+
+abbrev pub isLess : Ordering → Bool
+isLess Less = true
+isLess Equal = false
+isLess Greater = false
+
+lower-below : (x y : ℕ) (s t : List ℕ) → x < y → isBelow (x ∷ s) (y ∷ t) ≡ true
+unfolding isBelow
+lower-below x y s t h = simp (lt-ltb x y h)
+
+same-below : (x y : ℕ) (s t : List ℕ) → x ≡ y → isBelow (x ∷ s) (y ∷ t) ≡ isBelow s t
+unfolding isBelow
+same-below x y s t h = simp (le-ltb x y (omega arith), eq-eqb x y h)
+
+higher-below : (x y : ℕ) (s t : List ℕ) → y < x → isBelow (x ∷ s) (y ∷ t) ≡ false
+unfolding isBelow
+higher-below x y s t h = simp (le-ltb x y (omega arith), ne-eqb x y (λ e. omega arith))
+
+-- a key is below another where the comparison says so
+pub below-compared : (a b : List ℕ) → isBelow a b ≡ isLess (compareKeys a b)
+unfolding isBelow compareKeys
+below-compared [] [] = refl
+below-compared [] (y ∷ b) = refl
+below-compared (x ∷ a) [] = refl
+below-compared (x ∷ a) (y ∷ b) = by (below-compared a b) (ways x y)
+  where
+    by : isBelow a b ≡ isLess (compareKeys a b) → Ways x y → isBelow (x ∷ a) (y ∷ b) ≡ isLess (compareKeys (x ∷ a) (y ∷ b))
+    by r (below h) = lower-below x y a b h ∙ sym (ap isLess (first-below x y a b h))
+    by r (same h) = same-below x y a b h ∙ r ∙ sym (ap isLess (first-same x y a b h))
+    by r (above h) = higher-below x y a b h ∙ sym (ap isLess (first-above x y a b h))

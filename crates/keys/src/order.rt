@@ -1,6 +1,6 @@
 // The order of keys: bytewise, a prefix first (docs/FORMAT.md, Runs).
+use slices::field::join32;
 ghost use mathlib.Core.Path.{_≡_};
-ghost use mathlib.Core.List.{[], _∷_};
 ghost use Prim.Native.Nat.{_+_, _≤_};
 ghost use lib.ListN.{length, take, drop};
 ghost use Rattle.types.specs.Bytes.{word};
@@ -12,18 +12,12 @@ pub enum Ordering {
     Greater,
 }
 
-// Four bytes as one number, which a machine reads at once.
-fn word_of(a: u8, b: u8, c: u8, d: u8) -> u32
-    ensures answers { λ r. ⌜ r ≡ word (a ∷ b ∷ c ∷ d ∷ []) ⌝ }
-{
-    (a as u32) + (b as u32) * 0x100 + (c as u32) * 0x10000 + (d as u32) * 0x1000000
-}
-
+// The four bytes at a position as one number.
 fn word_at(bytes: &[u8], at: usize) -> u32
     requires { ⌜ at + 4 ≤ length (now bytes) ⌝ }
     ensures answers { λ r. ⌜ r ≡ word (take 4 (drop at (now (bytes .entry)))) ⌝ }
 {
-    word_of(bytes[at], bytes[at + 1], bytes[at + 2], bytes[at + 3])
+    join32(bytes[at], bytes[at + 1], bytes[at + 2], bytes[at + 3])
 }
 
 fn shorter(a: usize, b: usize) -> usize

@@ -1,7 +1,6 @@
 pub mod Answers
 pub mod Bounds
 pub mod Items
-pub mod Parts
 pub mod RecordTable
 pub mod Records
 pub mod Search

@@ -8,7 +8,7 @@ use lib.ListN.{length, getD}
 use Rattle.types.specs.Build.{maxKeySize, maxValueSize}
 use Rattle.types.specs.Bytes.{word}
 use Rattle.types.specs.declared.refusal.Refusal.the-variants.{Corrupted, LaterEdition}
-use Rattle.run.specs.Parts.{partOf}
+use Rattle.slices.specs.Parts.{partTo}
 use Rattle.run.specs.declared.record.Record.{Record}
 use Rattle.run.specs.declared.record.Head.{Head}
 use Rattle.run.specs.declared.record.Head.the-variants as head
@@ -63,7 +63,7 @@ headAt run at =
 
 -- a record's key and value
 abbrev pub keyIn : List ℕ → Record → List ℕ
-keyIn run r = partOf run (r .key) (r .value)
+keyIn run r = partTo run (r .key) (r .value)
 
 abbrev pub valueIn : List ℕ → Record → List ℕ
-valueIn run r = partOf run (r .value) (r .next)
+valueIn run r = partTo run (r .value) (r .next)

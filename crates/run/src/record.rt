@@ -6,7 +6,7 @@ ghost use mathlib.Core.List.{[], _∷_};
 ghost use Rattle.types.specs.Bytes.{word};
 ghost use Rattle.run.specs.Answers.{headNumber};
 ghost use Rattle.run.specs.Records.{recordHeaderSize, verdictOf, bodyAt, headAt, keyIn, valueIn};
-use crate::part::part;
+use slices::part::part_to;
 use types::config::MAX_KEY_SIZE;
 use types::config::MAX_VALUE_SIZE;
 use types::refusal::Refusal;
@@ -48,7 +48,7 @@ impl Record {
     {
         let from = self.key;
         let to = self.value;
-        part(run, from, to)
+        part_to(run, from, to)
     }
 
     // The value, where it lies.
@@ -57,7 +57,7 @@ impl Record {
     {
         let from = self.value;
         let to = self.next;
-        part(run, from, to)
+        part_to(run, from, to)
     }
 }
 

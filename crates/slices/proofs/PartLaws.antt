@@ -1,12 +1,14 @@
--- A part of lent bytes that is cut to what there is. Assumes nothing.
+-- A part of lent bytes is cut to what there is, so it is never longer than was asked. Assumes nothing.
 use mathlib.Core.Path.{_≡_, sym, ap, _∙_}
 use mathlib.Core.List.{List}
 use mathlib.Core.Logic.{⊎-elim}
 use Prim.Native.Nat.{ℕ, _+_, _-_, _≤_, _<_, min}
+use native.Mathlib.Nat.{min-le-left}
 use native.Mathlib.Omega.{arith}
-use lib.ListN.{length, take, drop, length-drop, drop-of-length-le}
+use lib.ListN.{length, take, drop, length-take, length-drop, drop-of-length-le}
 use lib.Seq.{take-nil}
 use Rattle.types.proofs.TestLaws.{le-or-lt}
+use Rattle.slices.specs.Parts.{partTo}
 use Rattle.slices.proofs.PatchLaws.{take-least}
 
 -- a part from a start that is not past the end, to an end that is not past it either
@@ -24,3 +26,7 @@ part-lent xs from count start end s e =
     let b : length xs ≤ from = omega arith in
     ap (take (end - start)) (drop-of-length-le xs a) ∙ take-nil (end - start) ∙ sym (ap (take count) (drop-of-length-le xs b) ∙ take-nil count))
     (le-or-lt from (length xs))
+
+pub part-fits : (bytes : List ℕ) (from to : ℕ) → length (partTo bytes from to) ≤ to - from
+unfolding partTo
+part-fits bytes from to = rw (length-take (to - from) (drop from bytes)) (min-le-left (to - from) (length (drop from bytes)))

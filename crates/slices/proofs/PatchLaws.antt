@@ -56,7 +56,8 @@ drop-over n (b ∷ bytes) [] h = refl
 drop-over zero (b ∷ bytes) (x ∷ xs) h = absurd (not-suc-le-zero h)
 drop-over (suc n) (b ∷ bytes) (x ∷ xs) h = drop-over n bytes xs (le-of-suc-le-suc h)
 
-part-over : (bytes xs : List ℕ) → length bytes ≤ length xs → take (length bytes) (over bytes xs) ≡ bytes
+-- what was put over the start can be read again
+pub part-over : (bytes xs : List ℕ) → length bytes ≤ length xs → take (length bytes) (over bytes xs) ≡ bytes
 unfolding over
 part-over [] xs h = refl
 part-over (b ∷ bytes) [] h = absurd (not-suc-le-zero h)

@@ -23,10 +23,11 @@ fn join16(a: u8, b: u8) -> u16
     (b as u16) * 256 + (a as u16)
 }
 
-fn join32(a: u8, b: u8, c: u8, d: u8) -> u32
+// Four bytes as one number, which a machine reads at once.
+pub fn join32(a: u8, b: u8, c: u8, d: u8) -> u32
     ensures answers { λ r. ⌜ r ≡ word (a ∷ b ∷ c ∷ d ∷ []) ⌝ }
 {
-    (((d as u32) * 256 + (c as u32)) * 256 + (b as u32)) * 256 + (a as u32)
+    (a as u32) + (b as u32) * 0x100 + (c as u32) * 0x10000 + (d as u32) * 0x1000000
 }
 
 pub fn get16(bytes: &[u8], at: usize) -> u16

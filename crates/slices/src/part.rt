@@ -3,6 +3,7 @@ use types::num::least;
 use types::num::less;
 ghost use mathlib.Core.Path.{_≡_};
 ghost use lib.ListN.{length, take, drop};
+ghost use Rattle.slices.specs.Parts.{partTo};
 ghost use Rattle.slices.specs.Patch.{over, blank};
 
 // At most `count` bytes starting at `from`; fewer if the slice ends first.
@@ -12,6 +13,13 @@ pub fn part_of(bytes: &[u8], from: usize, count: usize) -> &[u8]
     let start = least(from, bytes.len());
     let end = start + least(count, less(bytes.len(), start));
     &bytes[start..end]
+}
+
+// The bytes from `from` up to `to`, as far as they are there.
+pub fn part_to(bytes: &[u8], from: usize, to: usize) -> &[u8]
+    ensures answers { λ r. ⌜ now r ≡ partTo (now (bytes .entry)) from to ⌝ }
+{
+    part_of(bytes, from, less(to, from))
 }
 
 // Puts the bytes over the part's start, as far as they fit.

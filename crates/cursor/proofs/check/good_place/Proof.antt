@@ -1,4 +1,4 @@
--- `cursor::check::good_place` meets its contract. Assumes nothing.
+-- `cursor::check::good_place` takes any run that is gone, and a position within its run. Assumes nothing.
 use borrow.Author.Needs.{needs}
 use Rattle.cursor.specs.Checks.{goodPlace}
 use Rattle.cursor.proofs.check.good_place.Statement.{statement}

@@ -1,4 +1,4 @@
--- `cursor::check::good_places` meets its contract. Assumes nothing.
+-- `cursor::check::good_places`: the places seen are good, so those that are left decide. Assumes nothing.
 use mathlib.Core.Path.{_≡_, refl}
 use Prim.Native.Nat.{_-_, _≤_}
 use native.Mathlib.Omega.{arith}
@@ -39,7 +39,12 @@ loop-less : tie.Need-loop-less Inv-loop μ-loop
 loop-less c = omega arith
 
 loop-again : tie.Need-loop-again Inv-loop μ-loop
-loop-again c = (omega arith, place-good _ _ _ _ (c .before .before .before .before .loop .inv .1) (c .before .before .before .loop-test .taken) _ (c .before .good-place .ensures) (not-false _ (c .if1 .left)))
+loop-again c =
+    let test = c .before .before .before in
+    let turn = test .before in (
+      omega arith,
+      place-good _ _ _ _ (turn .loop .inv .1) (test .loop-test .taken) _ (c .before .good-place .ensures) (not-false _ (c .if1 .left)),
+    )
 
 returns-2 : tie.Need-returns-2 Inv-loop μ-loop
 returns-2 c = places-none _ _ _ _ (c .before .loop .inv .1) (c .loop-test .left)

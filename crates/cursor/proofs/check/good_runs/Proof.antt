@@ -1,4 +1,4 @@
--- `cursor::check::good_runs` meets its contract. Assumes nothing.
+-- `cursor::check::good_runs`: the ends seen are good, so those that are left decide. Assumes nothing.
 use mathlib.Core.Path.{_≡_}
 use Prim.Native.Nat.{_-_, _≤_}
 use native.Mathlib.Omega.{arith}

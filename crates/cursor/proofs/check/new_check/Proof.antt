@@ -1,4 +1,4 @@
--- `cursor::check::new_check` meets its contract. Assumes nothing.
+-- `cursor::check::new_check` asks for the runs alone. Assumes nothing.
 use borrow.Author.Needs.{needs}
 use Rattle.cursor.specs.Checks.{newCheck}
 use Rattle.cursor.proofs.check.new_check.Statement.{statement}

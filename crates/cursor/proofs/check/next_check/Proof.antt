@@ -1,4 +1,4 @@
--- `cursor::check::next_check` meets its contract. Assumes nothing.
+-- `cursor::check::next_check` asks for the runs and then for the places. Assumes nothing.
 use borrow.Author.Tests.{not-true, not-false}
 use borrow.Author.Needs.{needs}
 use Rattle.cursor.specs.Checks.{nextCheck}
@@ -17,11 +17,19 @@ good-places-requires c κs = search needs
 
 returns-2 : tie.Need-returns-2
 unfolding nextCheck
-returns-2 c = rw (← c .before .before .before .good-runs .ensures, not-false (c .before .before .before .good-runs .result) (c .before .before .if1 .left), ← c .before .good-places .ensures, c .if2 .taken)
+returns-2 c =
+    let first-test = c .before .before in
+    let runs-checked = first-test .before in
+    rw
+    (← runs-checked .good-runs .ensures, not-false (runs-checked .good-runs .result) (first-test .if1 .left), ← c .before .good-places .ensures, c .if2 .taken)
 
 returns-3 : tie.Need-returns-3
 unfolding nextCheck
-returns-3 c = rw (← c .before .before .before .good-runs .ensures, not-false (c .before .before .before .good-runs .result) (c .before .before .if1 .left), ← c .before .good-places .ensures, c .if2 .left)
+returns-3 c =
+    let first-test = c .before .before in
+    let runs-checked = first-test .before in
+    rw
+    (← runs-checked .good-runs .ensures, not-false (runs-checked .good-runs .result) (first-test .if1 .left), ← c .before .good-places .ensures, c .if2 .left)
 
 pub next-check-spec : {M : Type 1} → statement M
 next-check-spec =

@@ -1,29 +1,26 @@
--- `cursor::deliver::deliver` meets its contract. Assumes nothing.
+-- `cursor::deliver::deliver` hands out the record that the passes found; without one it only answers. Assumes nothing.
 use borrow.Author.Needs.{needs}
-use Rattle.cursor.proofs.NextLaws.{entry-room, delivered-none, delivered-entry}
+use Rattle.cursor.proofs.NextLaws.{delivered-none, delivered-found, delivered-refused}
 use Rattle.cursor.proofs.deliver.deliver.Statement.{statement}
 use Rattle.cursor.proofs.deliver.deliver.Tie as tie
-
-key-of-requires : tie.Need-key-of-requires
-key-of-requires c κs = search needs
-
-value-of-requires : tie.Need-value-of-requires
-value-of-requires c κs = search needs
-
-answer-by-requires : tie.Need-answer-by-requires
-answer-by-requires c κs = search needs
 
 enum-told : tie.Need-enum-told
 enum-told c = search needs
 
+enum-known-lowest : tie.Need-enum-known-lowest
+enum-known-lowest c = search needs
+
+run-of-requires : tie.Need-run-of-requires
+run-of-requires c κs = search needs
+
+hand-out-requires : tie.Need-hand-out-requires
+hand-out-requires c κs = search needs
+
+enum-known-lowest-2 : tie.Need-enum-known-lowest-2
+enum-known-lowest-2 c = search needs
+
 returns : tie.Need-returns
-returns c = delivered-none _ _ _ _ _ _ _ (c .before .before .before .key-of .ensures) (c .before .before .value-of .ensures) _ (c .before .answer-by .ensures) (c .match .keys2)
-
-put-requires : tie.Need-put-requires
-put-requires c κs = entry-room _ _ _ _ _ _ _ _ (c .before .before .before .answer-by .ensures) (c .before .enum-told .given .1) .0
-
-put-requires-2 : tie.Need-put-requires-2
-put-requires-2 c κs = entry-room _ _ _ _ _ _ _ _ (c .before .before .before .before .before .before .before .answer-by .ensures) (c .before .before .before .before .before .enum-told .given .1) .1
+returns c = delivered-none _ _ _ _ _ (c .enum-told .given .1)
 
 same-length : tie.Need-same-length
 same-length c = search needs
@@ -32,19 +29,26 @@ same-length-2 : tie.Need-same-length-2
 same-length-2 c = search needs
 
 returns-2 : tie.Need-returns-2
-returns-2 c = delivered-entry _ _ _ _ _ _ _ (c .before .before .before .before .before .before .before .before .before .before .before .before .key-of .ensures) (c .before .before .before .before .before .before .before .before .before .before .before .value-of .ensures) _ (c .before .before .before .before .before .before .before .before .before .before .answer-by .ensures) _ _ (c .before .before .before .before .before .before .before .before .enum-told .given .1) _ _ (c .before .before .before .before .before .before .put .ensures) (c .before .before .put2 .ensures)
+returns-2 c =
+    let handed = c .before .before .before .before in
+    let run-found = handed .before .before .before in
+    let found = run-found .before .before in
+    delivered-found _ _ _ _ _ _ _ (found .lowest .given .1) _ (run-found .run-of .ensures) _ _ _ (handed .hand-out .ensures)
+
+returns-3 : tie.Need-returns-3
+returns-3 c = delivered-refused _ _ _ _ _ _ (c .before .lowest2 .given .1)
 
 pub deliver-spec : {M : Type 1} → statement M
 deliver-spec =
     tie.close
     (tie.spec
-    key-of-requires
-    value-of-requires
-    answer-by-requires
     enum-told
+    enum-known-lowest
+    run-of-requires
+    hand-out-requires
+    enum-known-lowest-2
     returns
-    put-requires
-    put-requires-2
     same-length
     same-length-2
-    returns-2)
+    returns-2
+    returns-3)

@@ -1,4 +1,4 @@
--- `cursor::look::against` meets its contract. Assumes nothing.
+-- `cursor::look::against` compares with a key that was found, and puts any key below none. Assumes nothing.
 use mathlib.Core.Path.{_∙_}
 use borrow.Author.Needs.{needs}
 use Rattle.cursor.specs.Pass.{againstLowest}

@@ -1,4 +1,4 @@
--- `cursor::look::look_at` meets its contract. Assumes nothing.
+-- `cursor::look::look_at` goes the definition's way: the place, the head, the upper bound, the lowest key. Assumes nothing.
 use mathlib.Core.Path.{_∙_}
 use borrow.Author.Needs.{needs}
 use Rattle.cursor.specs.Pass.{lookBy}
@@ -34,7 +34,13 @@ past-requires : tie.Need-past-requires
 past-requires c κs = search needs
 
 returns-3 : tie.Need-returns-3
-returns-3 c = look-past _ _ _ _ _ _ _ (c .before .before .before .before .before .before .before .before .place .given .1) _ (c .before .before .before .before .before .before .head-at .ensures) _ (c .before .before .before .before .head .given .1) _ (c .before .before .key-in .ensures) _ (c .before .past .ensures) (c .if1 .taken)
+returns-3 c =
+    let keyed = c .before .before in
+    let matched = keyed .before .before in
+    let headed = matched .before .before in
+    let placed = headed .before .before in
+    look-past _ _ _ _ _ _ _ (placed .place .given .1) _ (headed .head-at .ensures) _ (matched .head .given .1) _ (keyed .key-in .ensures) _
+    (c .before .past .ensures) (c .if1 .taken)
 
 against-requires : tie.Need-against-requires
 against-requires c κs = search needs
@@ -50,15 +56,42 @@ enum-told-4 c = search needs
 
 returns-4 : tie.Need-returns-4
 unfolding lookBy
-returns-4 c = look-by _ _ _ _ _ _ _ (c .before .before .before .before .before .before .before .before .before .before .before .place .given .1) _ (c .before .before .before .before .before .before .before .before .before .head-at .ensures) _ (c .before .before .before .before .before .before .before .head .given .1) _ (c .before .before .before .before .before .key-in .ensures) _ (c .before .before .before .before .past .ensures) (c .before .before .before .if1 .left) _ _ (c .before .before .against .ensures) (c .enum-told2 .given .1)
+returns-4 c =
+    let held = c .before .before in
+    let first-test = held .before in
+    let bounded = first-test .before in
+    let keyed = bounded .before in
+    let matched = keyed .before .before in
+    let headed = matched .before .before in
+    let placed = headed .before .before in
+    look-by _ _ _ _ _ _ _ (placed .place .given .1) _ (headed .head-at .ensures) _ (matched .head .given .1) _ (keyed .key-in .ensures) _
+    (bounded .past .ensures) (first-test .if1 .left) _ _ (held .against .ensures) (c .enum-told2 .given .1)
 
 returns-5 : tie.Need-returns-5
 unfolding lookBy
-returns-5 c = look-by _ _ _ _ _ _ _ (c .before .before .before .before .before .before .before .before .before .before .before .place .given .1) _ (c .before .before .before .before .before .before .before .before .before .head-at .ensures) _ (c .before .before .before .before .before .before .before .head .given .1) _ (c .before .before .before .before .before .key-in .ensures) _ (c .before .before .before .before .past .ensures) (c .before .before .before .if1 .left) _ _ (c .before .before .against .ensures) (c .enum-told3 .given .1)
+returns-5 c =
+    let held = c .before .before in
+    let first-test = held .before in
+    let bounded = first-test .before in
+    let keyed = bounded .before in
+    let matched = keyed .before .before in
+    let headed = matched .before .before in
+    let placed = headed .before .before in
+    look-by _ _ _ _ _ _ _ (placed .place .given .1) _ (headed .head-at .ensures) _ (matched .head .given .1) _ (keyed .key-in .ensures) _
+    (bounded .past .ensures) (first-test .if1 .left) _ _ (held .against .ensures) (c .enum-told3 .given .1)
 
 returns-6 : tie.Need-returns-6
 unfolding lookBy
-returns-6 c = look-by _ _ _ _ _ _ _ (c .before .before .before .before .before .before .before .before .before .before .before .place .given .1) _ (c .before .before .before .before .before .before .before .before .before .head-at .ensures) _ (c .before .before .before .before .before .before .before .head .given .1) _ (c .before .before .before .before .before .key-in .ensures) _ (c .before .before .before .before .past .ensures) (c .before .before .before .if1 .left) _ _ (c .before .before .against .ensures) (c .enum-told4 .given .1)
+returns-6 c =
+    let held = c .before .before in
+    let first-test = held .before in
+    let bounded = first-test .before in
+    let keyed = bounded .before in
+    let matched = keyed .before .before in
+    let headed = matched .before .before in
+    let placed = headed .before .before in
+    look-by _ _ _ _ _ _ _ (placed .place .given .1) _ (headed .head-at .ensures) _ (matched .head .given .1) _ (keyed .key-in .ensures) _
+    (bounded .past .ensures) (first-test .if1 .left) _ _ (held .against .ensures) (c .enum-told4 .given .1)
 
 pub look-at-spec : {M : Type 1} → statement M
 look-at-spec =

@@ -1,4 +1,4 @@
--- `cursor::look::without` meets its contract. Assumes nothing.
+-- `cursor::look::without` tells the three heads apart as its definition does. Assumes nothing.
 use borrow.Author.Needs.{needs}
 use Rattle.cursor.proofs.look.without.Statement.{statement}
 use Rattle.cursor.proofs.look.without.Tie as tie

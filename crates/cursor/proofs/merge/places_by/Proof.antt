@@ -1,4 +1,4 @@
--- `cursor::merge::places_by` meets its contract. Assumes nothing.
+-- `cursor::merge::places_by` hands on the stepped places for an entry alone. Assumes nothing.
 use borrow.Author.Needs.{needs}
 use Rattle.cursor.specs.Next.{placesBy}
 use Rattle.cursor.proofs.NextLaws.{places-still}

@@ -1,4 +1,4 @@
--- `cursor::pass::hidden` meets its contract. Assumes nothing.
+-- `cursor::pass::hidden` reads the mark of the record that was found. Assumes nothing.
 use borrow.Author.Needs.{needs}
 use Rattle.cursor.specs.Settle.{isHidden}
 use Rattle.cursor.proofs.pass.hidden.Statement.{statement}

@@ -1,4 +1,4 @@
--- `cursor::pass::pass_over` meets its contract: what is left of the pass comes to the whole pass. Assumes nothing.
+-- `cursor::pass::pass_over`: what is left of the pass comes to the whole pass. Assumes nothing.
 use mathlib.Core.Path.{_≡_, refl}
 use Prim.Native.Nat.{_-_}
 use native.Mathlib.Omega.{arith}
@@ -11,7 +11,8 @@ use Rattle.cursor.proofs.pass.pass_over.Statement.{statement}
 use Rattle.cursor.proofs.pass.pass_over.Tie as tie
 
 abbrev Inv-loop : tie.InvT-loop
-Inv-loop runs ends bound upper places₀ stepped₀ lowest₀ low₀ from₀ i₀ places stepped lowest low from i = laws.Rest runs ends bound upper (passOf runs ends bound upper places₀) i from low (record { places = places; stepped = stepped; lowest = lowest })
+Inv-loop runs ends bound upper places₀ stepped₀ lowest₀ low₀ from₀ i₀ places stepped lowest low from i =
+    laws.Rest runs ends bound upper (passOf runs ends bound upper places₀) i from low (record { places = places; stepped = stepped; lowest = lowest })
 
 abbrev μ-loop : tie.MeasureT-loop
 μ-loop runs ends bound upper places₀ stepped₀ lowest₀ low₀ from₀ i₀ places stepped lowest low from i = length ends - i
@@ -35,8 +36,8 @@ mul-to c = omega (arith, c .before .before .before .before .before .before .good
 shared-slice-read-to : tie.Need-shared-slice-read-to Inv-loop μ-loop
 shared-slice-read-to c = omega arith
 
-part-requires : tie.Need-part-requires Inv-loop μ-loop
-part-requires c κs = search needs
+part-to-requires : tie.Need-part-to-requires Inv-loop μ-loop
+part-to-requires c κs = search needs
 
 mul-p : tie.Need-mul-p Inv-loop μ-loop
 mul-p c = omega arith
@@ -66,7 +67,13 @@ loop-less : tie.Need-loop-less Inv-loop μ-loop
 loop-less c = omega arith
 
 loop-again : tie.Need-loop-again Inv-loop μ-loop
-loop-again c = laws.seen-gone _ _ _ _ _ _ _ _ _ (c .before .before .before .before .before .before .before .loop .inv) (c .before .before .before .before .before .before .loop-test .taken) _ (c .before .before .before .before .part .ensures) _ (c .before .before .look-at .ensures) (c .enum-told .given .1)
+loop-again c =
+    let looked = c .before .before in
+    let part = looked .before .before in
+    let test = part .before .before in
+    let turn = test .before in
+    laws.seen-gone _ _ _ _ _ _ _ _ _ (turn .loop .inv) (test .loop-test .taken) _ (part .part-to .ensures) _ (looked .look-at .ensures)
+    (c .enum-told .given .1)
 
 enum-told-2 : tie.Need-enum-told-2 Inv-loop μ-loop
 enum-told-2 c = search needs
@@ -75,7 +82,13 @@ loop-less-2 : tie.Need-loop-less-2 Inv-loop μ-loop
 loop-less-2 c = omega arith
 
 loop-again-2 : tie.Need-loop-again-2 Inv-loop μ-loop
-loop-again-2 c = laws.seen-above _ _ _ _ _ _ _ _ _ (c .before .before .before .before .before .before .before .loop .inv) (c .before .before .before .before .before .before .loop-test .taken) _ (c .before .before .before .before .part .ensures) _ (c .before .before .look-at .ensures) (c .enum-told2 .given .1)
+loop-again-2 c =
+    let looked = c .before .before in
+    let part = looked .before .before in
+    let test = part .before .before in
+    let turn = test .before in
+    laws.seen-above _ _ _ _ _ _ _ _ _ (turn .loop .inv) (test .loop-test .taken) _ (part .part-to .ensures) _ (looked .look-at .ensures)
+    (c .enum-told2 .given .1)
 
 enum-known-same : tie.Need-enum-known-same Inv-loop μ-loop
 enum-known-same c = search needs
@@ -96,7 +109,14 @@ loop-less-3 : tie.Need-loop-less-3 Inv-loop μ-loop
 loop-less-3 c = omega arith
 
 loop-again-3 : tie.Need-loop-again-3 Inv-loop μ-loop
-loop-again-3 c = laws.seen-level _ _ _ _ _ _ _ _ _ (c .before .before .before .before .before .before .before .before .before .before .loop .inv) (c .before .before .before .before .before .before .before .before .before .loop-test .taken) _ (c .before .before .before .before .before .before .before .part .ensures) _ (c .before .before .before .before .before .look-at .ensures) _ _ (c .key-in .ensures) _ (c .before .after .ensures) (c .before .before .before .same .given .1)
+loop-again-3 c =
+    let level = c .before .before .before in
+    let looked = level .before .before in
+    let part = looked .before .before in
+    let test = part .before .before in
+    let turn = test .before in
+    laws.seen-level _ _ _ _ _ _ _ _ _ (turn .loop .inv) (test .loop-test .taken) _ (part .part-to .ensures) _ (looked .look-at .ensures) _ _
+    (c .key-in .ensures) _ (c .before .after .ensures) (level .same .given .1)
 
 enum-known-lower : tie.Need-enum-known-lower Inv-loop μ-loop
 enum-known-lower c = search needs
@@ -117,13 +137,26 @@ loop-less-4 : tie.Need-loop-less-4 Inv-loop μ-loop
 loop-less-4 c = omega arith
 
 loop-again-4 : tie.Need-loop-again-4 Inv-loop μ-loop
-loop-again-4 c = laws.seen-below _ _ _ _ _ _ _ _ _ (c .before .before .before .before .before .before .before .before .before .before .loop .inv) (c .before .before .before .before .before .before .before .before .before .loop-test .taken) _ (c .before .before .before .before .before .before .before .part .ensures) _ (c .before .before .before .before .before .look-at .ensures) _ _ (c .key-in2 .ensures) _ (c .before .after2 .ensures) (c .before .before .before .lower .given .1)
+loop-again-4 c =
+    let lowered = c .before .before .before in
+    let looked = lowered .before .before in
+    let part = looked .before .before in
+    let test = part .before .before in
+    let turn = test .before in
+    laws.seen-below _ _ _ _ _ _ _ _ _ (turn .loop .inv) (test .loop-test .taken) _ (part .part-to .ensures) _ (looked .look-at .ensures) _ _
+    (c .key-in2 .ensures) _ (c .before .after2 .ensures) (lowered .lower .given .1)
 
 enum-known-why : tie.Need-enum-known-why Inv-loop μ-loop
 enum-known-why c = search needs
 
 returns : tie.Need-returns Inv-loop μ-loop
-returns c = laws.seen-refused _ _ _ _ _ _ _ _ _ (c .before .before .before .before .before .before .before .before .loop .inv) (c .before .before .before .before .before .before .before .loop-test .taken) _ (c .before .before .before .before .before .part .ensures) _ (c .before .before .before .look-at .ensures) _ (c .before .why .given .1)
+returns c =
+    let looked = c .before .before .before in
+    let part = looked .before .before in
+    let test = part .before .before in
+    let turn = test .before in
+    laws.seen-refused _ _ _ _ _ _ _ _ _ (turn .loop .inv) (test .loop-test .taken) _ (part .part-to .ensures) _ (looked .look-at .ensures) _
+    (c .before .why .given .1)
 
 returns-2 : tie.Need-returns-2 Inv-loop μ-loop
 returns-2 c = laws.all-seen _ _ _ _ _ _ _ _ _ (c .before .loop .inv) (c .loop-test .left)
@@ -139,7 +172,7 @@ pass-over-spec =
     add-i
     mul-to
     shared-slice-read-to
-    part-requires
+    part-to-requires
     mul-p
     array-copy-out-p
     look-at-requires

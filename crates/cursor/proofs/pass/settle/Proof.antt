@@ -1,4 +1,4 @@
--- `cursor::pass::settle` meets its contract: the passes from the places reached come to the whole. Assumes nothing.
+-- `cursor::pass::settle`: the passes from the places reached come to the whole. Assumes nothing.
 use mathlib.Core.Path.{refl, sym, _∙_}
 use native.Mathlib.Nat.{le-refl}
 use borrow.Author.Tests.{not-true, not-false}
@@ -28,10 +28,22 @@ returns : tie.Need-returns Inv-loop μ-loop
 returns c = laws.settle-ends _ _ _ _ _ _ _ (c .before .before .pass-over .ensures) (c .before .before .before .loop .inv) (sym (c .before .hidden .ensures) ∙ not-true _ (c .if1 .taken))
 
 loop-less : tie.Need-loop-less Inv-loop μ-loop
-loop-less c = laws.settle-less _ _ _ _ _ _ (c .before .before .before .pass-over .result) (c .before .before .before .pass-over .ensures) (c .before .before .before .before .loop .inv) (c .before .before .before .before .before .before .before .before .pre) (sym (c .before .before .hidden .ensures) ∙ not-false _ (c .before .if1 .left))
+loop-less c =
+    let hidden-asked = c .before .before in
+    let passed = hidden-asked .before in
+    let turn = passed .before in
+    let entry = turn .before .before .before .before in
+    laws.settle-less _ _ _ _ _ _ (passed .pass-over .result) (passed .pass-over .ensures) (turn .loop .inv) (entry .pre)
+    (sym (hidden-asked .hidden .ensures) ∙ not-false _ (c .before .if1 .left))
 
 loop-again : tie.Need-loop-again Inv-loop μ-loop
-loop-again c = laws.settle-again _ _ _ _ _ _ (c .before .before .before .pass-over .result) (c .before .before .before .pass-over .ensures) (c .before .before .before .before .loop .inv) (c .before .before .before .before .before .before .before .before .pre) (sym (c .before .before .hidden .ensures) ∙ not-false _ (c .before .if1 .left))
+loop-again c =
+    let hidden-asked = c .before .before in
+    let passed = hidden-asked .before in
+    let turn = passed .before in
+    let entry = turn .before .before .before .before in
+    laws.settle-again _ _ _ _ _ _ (passed .pass-over .result) (passed .pass-over .ensures) (turn .loop .inv) (entry .pre)
+    (sym (hidden-asked .hidden .ensures) ∙ not-false _ (c .before .if1 .left))
 
 pub settle-spec : {M : Type 1} → statement M
 settle-spec =

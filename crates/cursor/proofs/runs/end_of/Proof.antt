@@ -1,4 +1,4 @@
--- `cursor::runs::end_of` meets its contract. Assumes nothing.
+-- `cursor::runs::end_of` reads 0 past the list, as the definition does. Assumes nothing.
 use mathlib.Core.Path.{sym}
 use lib.ListN.{List·getD-eq-default}
 use borrow.Author.Needs.{needs}

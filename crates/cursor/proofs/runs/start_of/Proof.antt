@@ -1,4 +1,4 @@
--- `cursor::runs::start_of` meets its contract. Assumes nothing.
+-- `cursor::runs::start_of` is 0 for the first run, and the end before it for any other. Assumes nothing.
 use mathlib.Core.Path.{_∙_}
 use borrow.Author.Needs.{needs}
 use Rattle.cursor.proofs.RunLaws.{start-first, start-later}

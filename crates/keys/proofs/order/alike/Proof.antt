@@ -1,4 +1,4 @@
--- `keys::order::alike` meets its contract: the bytes passed are the same in both. Assumes nothing.
+-- `keys::order::alike`: the bytes passed are the same in both. Assumes nothing.
 use mathlib.Core.Path.{refl, sym, _∙_}
 use Prim.Native.Nat.{_-_, _≤_}
 use native.Mathlib.Omega.{arith}
@@ -42,13 +42,18 @@ loop-less c = omega arith
 
 loop-again : tie.Need-loop-again Inv-loop μ-loop
 loop-again c =
-    let w = c .before .before .before .before .loop .inv in (
+    let first-word = c .before .before in
+    let turn = first-word .before .before in
+    let second-known = turn .before .before in
+    let first-known = second-known .before in
+    let entry = first-known .before in
+    let w = turn .loop .inv in (
       omega arith,
       w .1,
       w .2,
-      alike-more (now (c .before .before .before .before .before .before .before .before .args .a)) (now (c .before .before .before .before .before .before .before .before .args .b)) (c .before .before .before .before .loop .i)
-          (λ k. omega (arith, c .before .before .before .before .before .before .before .shared-slice-known .given k)) (λ k. omega (arith, c .before .before .before .before .before .before .shared-slice-known2 .given k))
-          (w .3) (omega arith) (omega arith) (sym (c .before .before .word-at .ensures) ∙ c .if1 .left ∙ c .before .word-at2 .ensures),
+      alike-more (now (entry .args .a)) (now (entry .args .b)) (turn .loop .i)
+          (λ k. omega (arith, first-known .shared-slice-known .given k)) (λ k. omega (arith, second-known .shared-slice-known2 .given k))
+          (w .3) (omega arith) (omega arith) (sym (first-word .word-at .ensures) ∙ c .if1 .left ∙ c .before .word-at2 .ensures),
     )
 
 returns-2 : tie.Need-returns-2 Inv-loop μ-loop

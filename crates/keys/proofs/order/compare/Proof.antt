@@ -1,4 +1,4 @@
--- `keys::order::compare` meets its contract: what is left of both keys stands as the keys do. Assumes nothing.
+-- `keys::order::compare`: what is left of both keys stands as the keys do. Assumes nothing.
 use mathlib.Core.Path.{_≡_}
 use Prim.Native.Nat.{_-_, _≤_}
 use native.Mathlib.Omega.{arith}

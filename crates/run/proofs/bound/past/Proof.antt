@@ -1,4 +1,4 @@
--- `run::bound::past` meets its contract. Assumes nothing.
+-- `run::bound::past` compares the key with the bound and answers by how they stand. Assumes nothing.
 use borrow.Author.Needs.{needs}
 use Rattle.run.specs.Bounds.{pastBy}
 use Rattle.run.proofs.bound.past.Statement.{statement}

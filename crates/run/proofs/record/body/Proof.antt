@@ -1,4 +1,4 @@
--- `run::record::body` meets its contract. Assumes nothing.
+-- `run::record::body` asks for the key, the value and the run's end in the definition's order. Assumes nothing.
 use borrow.Author.Needs.{needs}
 use Rattle.run.specs.Records.{recordHeaderSize}
 use Rattle.run.proofs.RecordLaws.{body-long-key, body-long-value, body-cut-off, body-whole}

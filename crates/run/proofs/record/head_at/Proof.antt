@@ -1,4 +1,4 @@
--- `run::record::head_at` meets its contract. Assumes nothing.
+-- `run::record::head_at` asks for the end, six bytes, the mark and the kind in the definition's order. Assumes nothing.
 use mathlib.Core.Path.{_∙_}
 use native.Mathlib.Omega.{arith}
 use borrow.Author.Tests.{not-true, not-false}
@@ -28,7 +28,10 @@ shared-slice-read-marked-2 : tie.Need-shared-slice-read-marked-2
 shared-slice-read-marked-2 c = search needs
 
 returns-4 : tie.Need-returns-4
-returns-4 c = head-unmarked (now (c .before .before .before .before .before .before .before .args .run)) (c .before .before .before .before .before .before .before .args .at) (c .before .before .before .before .before .if1 .left) (omega arith) (not-true _ (c .if4 .taken))
+returns-4 c =
+    let first-test = c .before .before .before .before .before in
+    let entry = first-test .before .before in
+    head-unmarked (now (entry .args .run)) (entry .args .at) (first-test .if1 .left) (omega arith) (not-true _ (c .if4 .taken))
 
 add-verdict-of : tie.Need-add-verdict-of
 add-verdict-of c = search needs
@@ -57,25 +60,40 @@ enum-known-why c = search needs
 returns-5 : tie.Need-returns-5
 unfolding headBy
 returns-5 c =
-    let run = now (c .before .before .before .before .before .before .before .before .before .before .before .before .args .run) in
-    let at = c .before .before .before .before .before .before .before .before .before .before .before .before .args .at in
+    let judged = c .before .before .before in
+    let marked-test = judged .before .before in
+    let first-test = marked-test .before .before .before .before .before in
+    let entry = first-test .before .before in
+    let run = now (entry .args .run) in
+    let at = entry .args .at in
     c .body .ensures
-    ∙ head-marked run at (c .before .before .before .before .before .before .before .before .before .before .if1 .left) (omega arith) (not-false _ (c .before .before .before .before .before .if4 .left)) _ _ (c .before .before .before .verdict-of .ensures) (c .before .enum-told .given .1)
+    ∙ head-marked run at (first-test .if1 .left) (omega arith) (not-false _ (marked-test .if4 .left)) _ _ (judged .verdict-of .ensures)
+    (c .before .enum-told .given .1)
 
 returns-6 : tie.Need-returns-6
 unfolding headBy
 returns-6 c =
-    let run = now (c .before .before .before .before .before .before .before .before .before .before .before .before .args .run) in
-    let at = c .before .before .before .before .before .before .before .before .before .before .before .before .args .at in
+    let judged = c .before .before .before in
+    let marked-test = judged .before .before in
+    let first-test = marked-test .before .before .before .before .before in
+    let entry = first-test .before .before in
+    let run = now (entry .args .run) in
+    let at = entry .args .at in
     c .body2 .ensures
-    ∙ head-marked run at (c .before .before .before .before .before .before .before .before .before .before .if1 .left) (omega arith) (not-false _ (c .before .before .before .before .before .if4 .left)) _ _ (c .before .before .before .verdict-of .ensures) (c .before .enum-told2 .given .1)
+    ∙ head-marked run at (first-test .if1 .left) (omega arith) (not-false _ (marked-test .if4 .left)) _ _ (judged .verdict-of .ensures)
+    (c .before .enum-told2 .given .1)
 
 returns-7 : tie.Need-returns-7
 unfolding headBy
 returns-7 c =
-    let run = now (c .before .before .before .before .before .before .before .before .before .before .before .before .args .run) in
-    let at = c .before .before .before .before .before .before .before .before .before .before .before .before .args .at in
-    head-marked run at (c .before .before .before .before .before .before .before .before .before .before .if1 .left) (omega arith) (not-false _ (c .before .before .before .before .before .if4 .left)) _ _ (c .before .before .before .verdict-of .ensures) (c .before .why .given .1)
+    let judged = c .before .before .before in
+    let marked-test = judged .before .before in
+    let first-test = marked-test .before .before .before .before .before in
+    let entry = first-test .before .before in
+    let run = now (entry .args .run) in
+    let at = entry .args .at in
+    head-marked run at (first-test .if1 .left) (omega arith) (not-false _ (marked-test .if4 .left)) _ _ (judged .verdict-of .ensures)
+    (c .before .why .given .1)
 
 pub head-at-spec : {M : Type 1} → statement M
 head-at-spec =

@@ -1,4 +1,4 @@
--- `run::record::verdict_of` meets its contract. Assumes nothing.
+-- `run::record::verdict_of` has an arm for each range of kinds that its definition tells apart. Assumes nothing.
 use native.Mathlib.Omega.{arith}
 use Rattle.run.proofs.RecordLaws.{verdict-live, verdict-deleted, verdict-later, verdict-bad}
 use Rattle.run.proofs.record.verdict_of.Statement.{statement}

@@ -1,4 +1,4 @@
--- `run::record::wide_pair` meets its contract. Assumes nothing.
+-- `run::record::wide_pair` counts the second byte 256 times, as `word` does. Assumes nothing.
 use native.Mathlib.Omega.{arith}
 use borrow.Author.Needs.{needs}
 use Rattle.types.specs.Bytes.{word}

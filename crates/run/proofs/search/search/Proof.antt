@@ -1,4 +1,4 @@
--- `run::search::search` meets its contract: the search from the position reached comes to the whole search's answer. Assumes
+-- `run::search::search`: the search from the position reached comes to the whole search's answer. Assumes
 -- nothing.
 use mathlib.Core.Path.{_∙_, ap}
 use Prim.Native.Nat.{suc, _-_}
@@ -49,10 +49,21 @@ enum-told-2 : tie.Need-enum-told-2 Inv-loop μ-loop
 enum-told-2 c = search needs
 
 loop-less : tie.Need-loop-less Inv-loop μ-loop
-loop-less c = let n = laws.nearer _ _ _ _ _ (c .before .before .before .before .before .before .before .before .loop .inv) _ _ (c .before .before .before .before .before .before .before .head-at .ensures) (c .before .before .before .before .before .head .given .1) in omega arith
+loop-less c =
+    let matched = c .before .before .before .before .before in
+    let headed = matched .before .before in
+    let turn = headed .before in
+    let n = laws.nearer _ _ _ _ _ (turn .loop .inv) _ _ (headed .head-at .ensures) (matched .head .given .1) in omega arith
 
 loop-again : tie.Need-loop-again Inv-loop μ-loop
-loop-again c = laws.below _ _ _ _ _ (c .before .before .before .before .before .before .before .before .loop .inv) _ _ (c .before .before .before .before .before .before .before .head-at .ensures) (c .before .before .before .before .before .head .given .1) _ (c .before .before .before .key-in .ensures) _ (c .before .before .compare .ensures) (c .enum-told2 .given .1)
+loop-again c =
+    let compared = c .before .before in
+    let keyed = compared .before in
+    let matched = keyed .before .before in
+    let headed = matched .before .before in
+    let turn = headed .before in
+    laws.below _ _ _ _ _ (turn .loop .inv) _ _ (headed .head-at .ensures) (matched .head .given .1) _ (keyed .key-in .ensures) _
+    (compared .compare .ensures) (c .enum-told2 .given .1)
 
 enum-told-3 : tie.Need-enum-told-3 Inv-loop μ-loop
 enum-told-3 c = search needs
@@ -62,14 +73,27 @@ level-requires c κs = search needs
 
 returns-3 : tie.Need-returns-3 Inv-loop μ-loop
 returns-3 c =
+    let compared = c .before .before .before in
+    let keyed = compared .before in
+    let matched = keyed .before .before in
+    let headed = matched .before .before in
+    let turn = headed .before in
     ap At (c .level .ensures)
-    ∙ laws.level _ _ _ _ _ (c .before .before .before .before .before .before .before .before .before .loop .inv) _ _ (c .before .before .before .before .before .before .before .before .head-at .ensures) (c .before .before .before .before .before .before .head .given .1) _ (c .before .before .before .before .key-in .ensures) _ (c .before .before .before .compare .ensures) (c .before .enum-told3 .given .1)
+    ∙ laws.level _ _ _ _ _ (turn .loop .inv) _ _ (headed .head-at .ensures) (matched .head .given .1) _ (keyed .key-in .ensures) _
+    (compared .compare .ensures) (c .before .enum-told3 .given .1)
 
 enum-told-4 : tie.Need-enum-told-4 Inv-loop μ-loop
 enum-told-4 c = search needs
 
 returns-4 : tie.Need-returns-4 Inv-loop μ-loop
-returns-4 c = laws.above _ _ _ _ _ (c .before .before .before .before .before .before .before .before .loop .inv) _ _ (c .before .before .before .before .before .before .before .head-at .ensures) (c .before .before .before .before .before .head .given .1) _ (c .before .before .before .key-in .ensures) _ (c .before .before .compare .ensures) (c .enum-told4 .given .1)
+returns-4 c =
+    let compared = c .before .before in
+    let keyed = compared .before in
+    let matched = keyed .before .before in
+    let headed = matched .before .before in
+    let turn = headed .before in
+    laws.above _ _ _ _ _ (turn .loop .inv) _ _ (headed .head-at .ensures) (matched .head .given .1) _ (keyed .key-in .ensures) _
+    (compared .compare .ensures) (c .enum-told4 .given .1)
 
 pub search-spec : {M : Type 1} → statement M
 search-spec =

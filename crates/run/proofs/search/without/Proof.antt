@@ -1,4 +1,4 @@
--- `run::search::without` meets its contract. Assumes nothing.
+-- `run::search::without` tells the three heads apart as its definition does. Assumes nothing.
 use borrow.Author.Needs.{needs}
 use Rattle.run.proofs.search.without.Statement.{statement}
 use Rattle.run.proofs.search.without.Tie as tie

@@ -1,4 +1,4 @@
--- A byte past the end counts as 0 (`past-end`). Assumes nothing.
+-- `slices::field::byte` reads the byte where there is one, and 0 past the end. Assumes nothing.
 use mathlib.Core.Path.{sym}
 use native.Mathlib.Omega.{arith}
 use borrow.Author.Needs.{needs}

@@ -1,4 +1,4 @@
--- Each byte is read by itself, and the four make the word (`word-elements`). Assumes nothing.
+-- `slices::field::get32` joins the field's four bytes, each read by itself. Assumes nothing.
 use mathlib.Core.Path.{_∙_}
 use lib.ListN.{drop}
 use Rattle.slices.proofs.FieldLaws.{elements, word-elements}

@@ -1,3 +1,4 @@
+-- `slices::field::join16` counts the second byte 256 times, as `word` does. Assumes nothing.
 use native.Mathlib.Omega.{arith}
 use Rattle.types.specs.Bytes.{word}
 use borrow.Author.Needs.{needs}

@@ -1,3 +1,4 @@
+-- `slices::field::join32` counts each byte 256 times the one before, as `word` does. Assumes nothing.
 use native.Mathlib.Omega.{arith}
 use Rattle.types.specs.Bytes.{word}
 use borrow.Author.Needs.{needs}

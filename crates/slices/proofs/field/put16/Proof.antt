@@ -1,3 +1,4 @@
+-- `slices::field::put16` takes the low byte and then the high one. Assumes nothing.
 use mathlib.Core.Path.{refl}
 use borrow.Author.Needs.{needs}
 use Rattle.types.specs.Bytes.{bytesOf}

@@ -1,3 +1,4 @@
+-- `slices::field::put32` takes one byte after the other off the number, the least first. Assumes nothing.
 use mathlib.Core.Path.{refl}
 use Rattle.types.specs.Bytes.{bytesOf}
 use borrow.Author.Needs.{needs}

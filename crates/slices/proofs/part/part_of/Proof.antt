@@ -1,4 +1,4 @@
--- Start and end are cut to the length, which takes the same bytes (`part-lent`). Assumes nothing.
+-- `slices::part::part_of` cuts start and length to the slice, which leaves the same bytes. Assumes nothing.
 use mathlib.Core.Path.{ap, _∙_}
 use Prim.Native.Nat.{ℕ, _+_, min}
 use Rattle.slices.proofs.PartLaws.{part-lent}

@@ -1,4 +1,4 @@
--- After i turns the first i bytes are put. Assumes nothing.
+-- `slices::part::put`: after i turns the first i bytes are put. Assumes nothing.
 use Prim.Native.Nat.{ℕ, _-_, _≤_, min}
 use mathlib.Core.Path.{_≡_, refl, ap, _∙_}
 use mathlib.Core.List.{List}

@@ -1,4 +1,4 @@
--- After i turns i bytes are set, and the rest is as it was. Assumes nothing.
+-- `slices::part::wipe`: after i turns i bytes are set, and the rest is as it was. Assumes nothing.
 use Prim.Native.Nat.{_-_, _≤_}
 use mathlib.Core.Path.{_≡_, refl, ap, _∙_}
 use mathlib.Core.List.{List, _++_}

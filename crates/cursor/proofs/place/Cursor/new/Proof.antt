@@ -1,4 +1,4 @@
--- `cursor::place::Cursor::new` meets its contract: what is left of the searches comes to the whole. Assumes nothing.
+-- `cursor::place::Cursor::new`: what is left of the searches comes to the whole. Assumes nothing.
 use mathlib.Core.Path.{_≡_, sym, _∙_}
 use Prim.Native.Nat.{_-_, _≤_}
 use native.Mathlib.Omega.{arith}
@@ -54,11 +54,16 @@ loop-less : tie.Need-loop-less Inv-loop μ-loop
 loop-less c = omega arith
 
 loop-again : tie.Need-loop-again Inv-loop μ-loop
-loop-again c = (
-  omega arith,
-  c .before .before .before .before .before .loop .inv .1,
-  laws.placed-gone _ _ _ _ _ _ _ (c .before .before .before .before .before .loop .inv .2) (c .before .before .before .before .loop-test .taken) _ (c .before .before .before .run-of .ensures) _ (c .before .before .search .ensures) (c .enum-told2 .given .1),
-)
+loop-again c =
+    let searched = c .before .before in
+    let run-found = searched .before in
+    let test = run-found .before in
+    let turn = test .before in (
+      omega arith,
+      turn .loop .inv .1,
+      laws.placed-gone _ _ _ _ _ _ _ (turn .loop .inv .2) (test .loop-test .taken) _ (run-found .run-of .ensures) _ (searched .search .ensures)
+          (c .enum-told2 .given .1),
+    )
 
 enum-known-at : tie.Need-enum-known-at Inv-loop μ-loop
 enum-known-at c = search needs
@@ -73,11 +78,16 @@ loop-less-2 : tie.Need-loop-less-2 Inv-loop μ-loop
 loop-less-2 c = omega arith
 
 loop-again-2 : tie.Need-loop-again-2 Inv-loop μ-loop
-loop-again-2 c = (
-  omega arith,
-  c .before .before .before .before .before .before .loop .inv .1,
-  laws.placed-at _ _ _ _ _ _ _ (c .before .before .before .before .before .before .loop .inv .2) (c .before .before .before .before .before .loop-test .taken) _ (c .before .before .before .before .run-of .ensures) _ (c .before .before .before .search .ensures) _ (c .before .at .given .1),
-)
+loop-again-2 c =
+    let searched = c .before .before .before in
+    let run-found = searched .before in
+    let test = run-found .before in
+    let turn = test .before in (
+      omega arith,
+      turn .loop .inv .1,
+      laws.placed-at _ _ _ _ _ _ _ (turn .loop .inv .2) (test .loop-test .taken) _ (run-found .run-of .ensures) _ (searched .search .ensures) _
+          (c .before .at .given .1),
+    )
 
 enum-known-why : tie.Need-enum-known-why Inv-loop μ-loop
 enum-known-why c = search needs
@@ -87,8 +97,14 @@ refused-requires-2 c κs = search needs
 
 returns-2 : tie.Need-returns-2 Inv-loop μ-loop
 returns-2 c =
+    let refusal = c .before .before in
+    let searched = refusal .before .before in
+    let run-found = searched .before in
+    let test = run-found .before in
+    let turn = test .before in
     c .refused2 .ensures
-    ∙ laws.placed-refused _ _ _ _ _ _ _ (c .before .before .before .before .before .before .before .loop .inv .2) (c .before .before .before .before .before .before .loop-test .taken) _ (c .before .before .before .before .before .run-of .ensures) _ (c .before .before .before .before .search .ensures) _ (c .before .before .why .given .1)
+    ∙ laws.placed-refused _ _ _ _ _ _ _ (turn .loop .inv .2) (test .loop-test .taken) _ (run-found .run-of .ensures) _ (searched .search .ensures) _
+    (refusal .why .given .1)
 
 returns-3 : tie.Need-returns-3 Inv-loop μ-loop
 returns-3 c = laws.all-placed _ _ _ _ _ _ _ (c .before .loop .inv .2) (c .loop-test .left)

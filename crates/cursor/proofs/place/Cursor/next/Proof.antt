@@ -1,4 +1,4 @@
--- `cursor::place::Cursor::next` meets its contract. Assumes nothing.
+-- `cursor::place::Cursor::next` refuses what its check refuses; else it delivers what the passes settled on. Assumes nothing.
 use mathlib.Core.Path.{sym, _∙_}
 use borrow.Author.Needs.{needs}
 use Rattle.cursor.proofs.CallLaws.{next-few, next-refused, next-settled}
@@ -33,7 +33,13 @@ same-length-2 : tie.Need-same-length-2
 same-length-2 c = search needs
 
 returns-2 : tie.Need-returns-2
-returns-2 c = next-settled _ _ _ _ _ _ _ _ (c .before .before .before .before .before .before .before .before .before .before .before .next-check .ensures) (c .before .before .before .before .before .before .before .before .before .enum-told .given .1) _ (c .before .before .before .before .before .before .before .before .settle .ensures) _ (c .before .before .before .before .before .deliver .ensures .0) _ _ (c .before .before .before .before .before .deliver .ensures .1) _ (c .places-by .ensures)
+returns-2 c =
+    let delivered = c .before .before .before .before .before in
+    let settled = delivered .before .before .before in
+    let fine = settled .before in
+    let checked = fine .before .before in
+    next-settled _ _ _ _ _ _ _ _ (checked .next-check .ensures) (fine .enum-told .given .1) _ (settled .settle .ensures)
+    _ (delivered .deliver .ensures .0) _ _ (delivered .deliver .ensures .1) _ (c .places-by .ensures)
 
 pub next-spec : {M : Type 1} → statement M
 next-spec =
