@@ -19,6 +19,8 @@ pub fn readers() -> Vec<String> {
     list.extend(lengths());
     list.extend(from_page_to_page());
     list.extend(refused());
+    list.extend(flash_before_state());
+    list.extend(most_pages());
     list
 }
 
@@ -122,4 +124,25 @@ fn refused() -> Vec<String> {
          |reader rehydrate_from 3|reader state|flash bytes 4097|reader open 000000a1 9 3|reader read 1|reader skip 0\
          |reader rehydrate_from 0|reader page_id|flash pages 1",
     )
+}
+
+/// A flash that is no whole pages, under a reader that was never opened: the flash is looked at first.
+fn flash_before_state() -> Vec<String> {
+    split(
+        "flash bytes 4095|reader new|reader read 1|reader skip 1|reader is_at_eof|reader dehydrate 0|reader page_id\
+         |slot forge 0 0 0 8 4 b63cfbcd 0|reader rehydrate_from 0|flash pages 1|reader read 1|reader skip 1\
+         |reader is_at_eof|reader rehydrate_from 0",
+    )
+}
+
+/// The last page of as many as there can be, and a flash of one page more.
+fn most_pages() -> Vec<String> {
+    let last = hex(&image(255, &[], &[&[1, 2, 3, 4], &[5]]));
+    split(&format!(
+        "flash pages 256|flash poke 255 0 {last}|reader open 000000a1 255 0|reader read 9|reader read 9|reader dehydrate 0\
+         |reader is_at_eof|reader open 000000a1 256 0|reader read_header 000000a1 255 0|reader page_id|reader state\
+         |flash bytes 1052672|flash poke 255 0 {last}|reader open 000000a1 255 0|reader read_header 000000a1 255 0\
+         |reader read 9|reader rehydrate_from 0|reader page_id|flash pages 256|flash poke 255 0 {last}\
+         |reader rehydrate_from 0|reader read 9|flash pages 1"
+    ))
 }

@@ -30,6 +30,9 @@ pub fn writers() -> Vec<String> {
     }
     calls.on_another_page();
     calls.limits();
+    calls.lengths();
+    calls.group_kept();
+    calls.most_pages();
     calls.list
 }
 
@@ -161,5 +164,46 @@ impl Calls {
             "writer write_header 000000a1 -|writer write_header 000000a1 00000000|flash bytes 4095|writer open 1 3",
         );
         self.say("writer write_header 000000a1 00|writer commit|flash pages 1");
+    }
+
+    /// What len() answers: up to the bytes before the offset and those pending, and a state with more is out of range.
+    fn lengths(&mut self) {
+        for fields in [
+            "0 12 0",
+            "1 12 0",
+            "1 12 1",
+            "2 12 1",
+            "4 16 0",
+            "5 16 0",
+            "4084 4096 0",
+            "4085 4096 0",
+        ] {
+            self.say(&format!(
+                "writer forge 0 0 0 ffffffff 00000000 {fields}|writer len|writer page_id"
+            ));
+        }
+        self.say("writer forge 0 8 0 ffffffff 00000000 4 20 0|writer len|writer forge 0 8 0 ffffffff 00000000 4 24 0|writer len");
+    }
+
+    /// A chunk's last group is filled up with the bytes that were there before, those of the former chunk too.
+    fn group_kept(&mut self) {
+        self.page(0);
+        self.say(
+            "writer write 010203|writer write 04|writer commit|writer state|writer write ff|writer state|writer commit",
+        );
+        self.say("writer state|writer write aabb|writer commit|writer write 05060708|writer write 99|writer commit");
+        self.say("writer open_append 0 0|writer state|writer write 77|writer commit");
+        self.read_back(0);
+    }
+
+    /// The last page of as many as there can be, and a flash of one page more.
+    fn most_pages(&mut self) {
+        self.say("flash pages 256|writer left 1000|writer open 256 0|writer open 255 0|writer write_header 000000a1 -");
+        self.say(
+            "writer write 0102030405|writer commit|writer page_id|flash sum 254|flash sum 255|writer open_append 255 0",
+        );
+        self.say("writer write 06|writer commit|writer state|reader open 000000a1 255 0|reader read 9|reader read 9");
+        self.say("flash bytes 1052672|writer open 0 0|writer open_append 255 0|writer write 01|writer commit");
+        self.say("writer write_header 000000a1 -|writer state|flash sum 255|flash pages 1");
     }
 }

@@ -4,7 +4,7 @@ use super::Gen;
 use crate::script::hex;
 
 /// Flash lengths that are not 1 to 256 whole pages.
-const BAD_FLASH: [usize; 5] = [0, 1, 4095, 4097, 12292];
+const BAD_FLASH: [usize; 6] = [0, 1, 4095, 4097, 12292, 1_052_672];
 
 impl Gen<'_> {
     pub fn reader(&mut self) {
@@ -30,12 +30,18 @@ impl Gen<'_> {
         }
     }
 
-    /// A flash with an image on each page.
+    /// A flash with an image on each page, or, now and then, as large as there can be with an image on its first and last page.
     fn pages(&mut self) -> Vec<Image> {
         let count = *self.rng.pick(&[1, 1, 2, 3, 4, 5]);
-        self.say(&format!("flash pages {count}"));
+        let pages: Vec<usize> = if self.rng.once_in(24) {
+            self.say("flash pages 256");
+            vec![0, 255]
+        } else {
+            self.say(&format!("flash pages {count}"));
+            (0..count).collect()
+        };
         let mut images = Vec::new();
-        for page in 0..count {
+        for page in pages {
             let mut image = self.image(page);
             for _ in 0..*self.rng.pick(&[0, 0, 0, 1, 1, 2]) {
                 self.damage(&mut image);

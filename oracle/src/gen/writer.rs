@@ -4,9 +4,13 @@ use crate::script::hex;
 
 impl Gen<'_> {
     pub fn writer(&mut self) {
-        let count = *self.rng.pick(&[1, 1, 2, 3]);
+        let count = if self.rng.once_in(24) {
+            256
+        } else {
+            *self.rng.pick(&[1, 1, 2, 3])
+        };
         self.say(&format!("flash pages {count}"));
-        let page = self.rng.below(count);
+        let page = if count == 256 { 255 } else { self.rng.below(count) };
         let h = self.some_h();
         self.start_page(page);
         self.say("writer left 1000");
