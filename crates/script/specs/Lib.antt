@@ -1,1 +1,2 @@
+pub mod Args
 pub mod Words

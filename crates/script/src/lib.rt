@@ -1,3 +1,4 @@
-// The words of a script: the text that the replay programs read, a call a line.
+// The words of a script: the text that the replay program reads, a call a line, with the arguments that they stand for.
+pub mod args;
 pub mod space;
 pub mod words;

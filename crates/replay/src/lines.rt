@@ -1,0 +1,56 @@
+// The lines of a script, each answered in turn.
+use crate::line::answer;
+use crate::world::new_world;
+use libc::STDERR_FILENO;
+use libc::STDIN_FILENO;
+use script::space::flash_space;
+use script::space::runs_space;
+use script::space::script_space;
+use script::words::end_from;
+use slices::part::part_of;
+use types::num::least;
+use types::num::less;
+
+// Run ends that a script can give.
+const MOST_ENDS: usize = 32;
+
+fn say_stopped(number: usize, line: &[u8]) {
+    io::write_all(STDERR_FILENO, b"replay: line ");
+    io::print_decimal(STDERR_FILENO, number as u64);
+    io::write_all(STDERR_FILENO, b" is no call, or passes a limit: ");
+    io::write_all(STDERR_FILENO, part_of(line, 0, 60));
+    io::write_all(STDERR_FILENO, b"\n");
+}
+
+fn answer_lines(script: &[u8], flash: &mut [u8], runs: &mut [u8], ends: &mut [usize]) {
+    let mut w = new_world();
+    let mut number = 0;
+    let mut at = 0;
+    while at < script.len() {
+        let end = end_from(script, at, b'\n');
+        let line = part_of(script, at, less(end, at));
+        number += 1;
+        w = answer(w, line, flash, runs, ends);
+        if !w.fine {
+            say_stopped(number, line);
+            return;
+        }
+        at = least(end, script.len()) + 1;
+    }
+}
+
+pub(crate) fn answer_input() {
+    let mut space = script_space();
+    let n = io::read_full(STDIN_FILENO, &mut space);
+    if n == space.len() {
+        io::write_all(
+            STDERR_FILENO,
+            b"replay: the script is longer than 1048575 bytes\n",
+        );
+        return;
+    }
+    let mut flash = flash_space();
+    let mut runs = runs_space();
+    let mut ends = [0; MOST_ENDS];
+    answer_lines(part_of(&space, 0, n), &mut flash, &mut runs, &mut ends);
+}

@@ -1,0 +1,18 @@
+-- `replay_cursor::calls::first_ends` meets its contract: a least number is no more than there are. Assumes nothing.
+use native.Mathlib.Omega.{arith}
+use lib.ListN.{length-take}
+use borrow.Author.Needs.{needs}
+use Rattle.replay_cursor.proofs.calls.first_ends.Statement.{statement}
+use Rattle.replay_cursor.proofs.calls.first_ends.Tie as tie
+
+least-requires : tie.Need-least-requires
+least-requires c κs = search needs
+
+slice-aggregate-result : tie.Need-slice-aggregate-result
+slice-aggregate-result c = simp length-take (omega (arith, c .before .least .ensures))
+
+returns : tie.Need-returns
+returns c = search needs
+
+pub first-ends-spec : {M : Type 1} → statement M
+first-ends-spec = tie.close (tie.spec least-requires slice-aggregate-result returns)

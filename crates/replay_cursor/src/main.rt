@@ -1,4 +1,0 @@
-// Replays calls on the runs and the cursor against the original's answers.
-fn main() {
-    replays::replay();
-}

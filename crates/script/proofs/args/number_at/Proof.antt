@@ -1,0 +1,16 @@
+-- `script::args::number_at` meets its contract. Assumes nothing.
+use borrow.Author.Needs.{needs}
+use Rattle.script.proofs.args.number_at.Statement.{statement}
+use Rattle.script.proofs.args.number_at.Tie as tie
+
+word-at-requires : tie.Need-word-at-requires
+word-at-requires c κs = search needs
+
+decimal-in-requires : tie.Need-decimal-in-requires
+decimal-in-requires c κs = search needs
+
+returns : tie.Need-returns
+returns c = rw (c .before .word-at .ensures) at (c .decimal-in .ensures)
+
+pub number-at-spec : {M : Type 1} → statement M
+number-at-spec = tie.close (tie.spec word-at-requires decimal-in-requires returns)
