@@ -1,6 +1,6 @@
--- The tables of bounds and of room hold, case by case. Assumes nothing.
+-- The tables of bounds, of room and of an entry before a refusal hold, case by case. Assumes nothing.
 use mathlib.Core.Path.{_≡_, refl}
-use mathlib.Core.List.{map}
+use mathlib.Core.List.{map, flatten}
 use Rattle.types.specs.Bytes.{word}
 use Rattle.run.specs.Bounds.{pastBy}
 use Rattle.keys.specs.Keys.{compareKeys}
@@ -10,17 +10,18 @@ use Rattle.run.specs.Records.{bodyAt, headBy, headAt}
 use Rattle.run.specs.Search.{soughtBy, soughtHead, soughtFrom, soughtIn}
 use Rattle.cursor.specs.Checks.{risingEnds, goodRuns, goodPlace, goodFrom, goodPlaces, newCheck, nextCheck}
 use Rattle.cursor.specs.New.{placed, newFrom, newBy, newOf}
-use Rattle.cursor.specs.Next.{fitted, answerBy, placesBy, putBy, movedBy, nextBy, nextOf, nextKey}
+use Rattle.cursor.specs.Next.{fitted, answerBy, placesBy, putBy, movedBy, nextBy, nextOf, nextKey, nextValue}
 use Rattle.cursor.specs.Pass.{againstLowest, lookBy, lookHead, lookAt, lowestKey, lowestValue, shows, change, passFrom, passOf}
 use Rattle.cursor.specs.Runs.{startOf}
 use Rattle.cursor.specs.Settle.{isHidden, leftAt, sumTo, left, settleFrom, settled}
-use Rattle.cursor.specs.Starred.{liveB, liveC}
-use Rattle.cursor.specs.BoundTable.{BoundCase, RoomCase, threeKeys, boundCases, keysBy, keysFrom, boundOutcome, roomCases, roomOutcome}
+use Rattle.cursor.specs.Starred.{liveB, liveC, endsFrom, shownKey, shownValue, placesIn, outcomeOf, outcomesFrom, outcomes, given, expected, call}
+use Rattle.cursor.specs.BoundTable.{BoundCase, RoomCase, threeKeys, boundCases, keysBy, keysFrom, boundOutcome, roomCases, roomOutcome, damagedRun}
 
 pub bound-table : (map boundOutcome boundCases ≡ map (λ (x : BoundCase). x .keys) boundCases)
-    × (map roomOutcome roomCases ≡ map (λ (x : RoomCase). x .number) roomCases)
+    × (map roomOutcome roomCases ≡ map (λ (x : RoomCase). x .number) roomCases) × (outcomes damagedRun ≡ expected damagedRun)
 unfolding word pastBy compareKeys partTo bodyAt headBy headAt soughtBy soughtHead soughtFrom soughtIn risingEnds goodRuns goodPlace goodFrom
     goodPlaces newCheck nextCheck placed newFrom newBy newOf fitted answerBy placesBy over putBy movedBy nextBy nextOf nextKey againstLowest
     lookBy lookHead lookAt lowestKey shows change passFrom passOf startOf isHidden leftAt sumTo left settleFrom settled liveB liveC
-    lowestValue threeKeys boundCases keysBy keysFrom boundOutcome roomCases roomOutcome
-bound-table = (refl, refl)
+    lowestValue threeKeys boundCases keysBy keysFrom boundOutcome roomCases roomOutcome nextValue flatten endsFrom shownKey shownValue
+    placesIn outcomeOf outcomesFrom outcomes given expected call damagedRun
+bound-table = (refl, refl, refl)

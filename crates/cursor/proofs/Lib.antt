@@ -6,6 +6,7 @@ pub mod CheckLaws
 pub mod ComingLaws
 pub mod EndClaims
 pub mod EndedLaws
+pub mod EntryClaims
 pub mod FallLaws
 pub mod GoodLaws
 pub mod HandLaws

@@ -1,4 +1,4 @@
--- Bounds on a key that a run holds, and the room of the buffers, as tables (docs/RULES.md, Merge, rows 2 and 3). What
+-- Bounds on a key that a run holds, the room of the buffers, and an entry before a refusal, as tables (docs/RULES.md, Merge). What
 -- a case gives is computed from the definitions. Assumes nothing.
 use mathlib.Core.List.{List, [], _∷_, _++_}
 use Prim.Native.Nat.{ℕ, zero, suc}
@@ -9,10 +9,11 @@ use Rattle.run.specs.declared.bound.Bound.the-variants.{Unbounded, Included, Ex
 use Rattle.cursor.specs.Answers.{nextNumber}
 use Rattle.cursor.specs.New.{newOf}
 use Rattle.cursor.specs.Next.{nextOf, nextKey}
-use Rattle.cursor.specs.Starred.{liveB, liveC}
+use Rattle.cursor.specs.Starred.{liveB, liveC, Case, call}
 use Rattle.cursor.specs.declared.answer.NextAnswer.{NextAnswer}
 use Rattle.cursor.specs.declared.answer.NextAnswer.the-variants.{End, Entry, Refused}
 use Rattle.cursor.specs.declared.place.Cursor.{Cursor}
+use Rattle.cursor.specs.declared.place.Place.the-variants.{At}
 
 -- ---- bounds
 
@@ -76,3 +77,13 @@ roomCases = roomCase 0 0 2 ∷ roomCase 0 1 2 ∷ roomCase 1 0 3 ∷ roomCase 1 
 unfoldable pub roomOutcome : RoomCase → ℕ
 roomOutcome x =
     nextNumber (nextOf liveB (length liveB ∷ []) Unbounded [] (newOf liveB (length liveB ∷ []) Unbounded [] .cursor) (x .keyRoom) (x .valueRoom) .answer)
+
+-- ---- an entry before a refusal
+
+-- a = 1 and one byte of a record: a is handed out, and then 1, the run staying where it is
+unfoldable pub damagedRun : Case
+damagedRun =
+    record {
+      runs = (liveA .bytes ++ (0x48 ∷ [])) ∷ [];
+      calls = call 1 1 0 (1 ∷ 1 ∷ []) (0x61 ∷ []) (0x31 ∷ []) (At 8 ∷ []) ∷ call 1 1 1 [] [] [] (At 8 ∷ []) ∷ [];
+    }
