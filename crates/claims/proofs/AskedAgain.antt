@@ -32,8 +32,8 @@ use Rattle.cursor.specs.declared.answer.NextAnswer.the-variants as next
 use Rattle.cursor.specs.declared.place.Cursor.{Cursor}
 use Rattle.cursor.proofs.AgainLaws.{next-again, key-kept, value-kept}
 use Rattle.cursor.proofs.NoCursorLaws.{new-refused-empty, none-handed}
-use Rattle.claims.specs.Again.{Left, IsRefused, AskedAgain, Slots, ReaderCall, readsHeader, opens, reads, skips}
-use Rattle.claims.specs.Again.{asksForItsEnd, dehydrates, rehydrates, asksItsPage, sameRoom, readerLeft, Buffers, Rooms, roomsOf, nextLeft}
+use Rattle.claims.specs.Again.{Left, IsRefused, AskedAgain, Buffers, Rooms, roomsOf, nextLeft}
+use Rattle.claims.specs.Again.{Slots, ReaderCall, readsHeader, opens, reads, skips, asksForItsEnd, dehydrates, rehydrates, asksItsPage, sameRoom, readerLeft}
 
 -- ---- a number other than 0 is a refusal's
 
