@@ -7,7 +7,7 @@ use native.Mathlib.Omega.{arith}
 use Rattle.types.specs.Build.{eraseValue, pageSize}
 use Rattle.types.specs.Bytes.{word, bytesOf}
 use Rattle.flash.specs.Geometry.{pageOf}
-use Rattle.flash.specs.Patch.{over, patch, blank}
+use Rattle.slices.specs.Patch.{over, patch, blank}
 use Rattle.page.specs.Chunks.{chunkHeader, chunkAt}
 use Rattle.page.specs.Headers.{pageHeader}
 use Rattle.page.specs.Walks.{walk, walkFrom, allErased}

@@ -11,7 +11,7 @@ use Rattle.types.specs.Bytes.{word, bytesOf}
 use Rattle.types.specs.declared.refusal.Verdict.the-variants.{Fine}
 use Rattle.crc.specs.Published as crc
 use Rattle.flash.specs.Geometry.{pageOf}
-use Rattle.flash.specs.Patch.{over, blank}
+use Rattle.slices.specs.Patch.{over, blank}
 use Rattle.page.specs.Chunks.{chunkHeader, nextOffset, chunkAt, checkedAt}
 use Rattle.page.specs.Headers.{pageHeader, pageHeaderFine}
 use Rattle.page.specs.Walks.{Chunk, walk, walkFrom}

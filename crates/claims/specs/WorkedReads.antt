@@ -4,7 +4,7 @@ use mathlib.Core.List.{List, [], _∷_, _++_}
 use Prim.Native.Nat.{ℕ, _-_}
 use Rattle.types.specs.Build.{eraseValue, pageSize}
 use Rattle.crc.specs.Published.{published}
-use Rattle.flash.specs.Patch.{blank}
+use Rattle.slices.specs.Patch.{blank}
 use Rattle.page.specs.Chunks.{chunkHeader}
 use Rattle.page.specs.Headers.{pageHeader}
 use Rattle.claims.specs.Again.{opens, reads}

@@ -15,7 +15,7 @@ use Rattle.types.specs.declared.refusal.Verdict.the-variants.{Fine, Refused}
 use Rattle.types.proofs.TestLaws.{decided, le-or-lt}
 use Rattle.crc.specs.Published.{published}
 use Rattle.flash.specs.Geometry.{pageOf}
-use Rattle.flash.specs.Patch.{over}
+use Rattle.slices.specs.Patch.{over}
 use Rattle.page.specs.Chunks.{nextOffset, payloadAt, checkedAt}
 use Rattle.page.specs.Headers.{pageHeaderFine}
 use Rattle.page.specs.Walks.{Chunk, Walked, walkFrom}
