@@ -25,8 +25,8 @@ use Rattle.alloc.specs.declared.answers.Allocated.{Allocated}
 use Rattle.alloc.specs.declared.answers.Allocated.the-variants as allocated
 use Rattle.alloc.specs.declared.answers.Allocation.{Allocation}
 use Rattle.alloc.specs.declared.answers.Change.{Change}
-use Rattle.alloc.specs.declared.answers.Outcome.{Outcome}
-use Rattle.alloc.specs.declared.answers.Outcome.the-variants as outcome
+use Rattle.types.specs.declared.answers.Outcome.{Outcome}
+use Rattle.types.specs.declared.answers.Outcome.the-variants as outcome
 use Rattle.types.specs.declared.refusal.Verdict.{Verdict}
 use Rattle.types.specs.declared.refusal.Verdict.the-variants.{Fine, Refused}
 use Rattle.alloc.proofs.HandedLaws.{found-free}

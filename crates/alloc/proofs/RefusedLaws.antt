@@ -5,7 +5,8 @@ use mathlib.Core.List.{List, [], _∷_}
 use Prim.Native.Nat.{ℕ, _%_}
 use Rattle.types.specs.declared.page_id.MaybePageID.{MaybePageID}
 use Rattle.types.specs.declared.page_id.MaybePageID.the-variants.{None, Some}
-use Rattle.alloc.specs.Answers.{outcomeTold, allocatedTold, pagesTold}
+use Rattle.types.specs.Answers.{outcomeTold}
+use Rattle.alloc.specs.Answers.{allocatedTold, pagesTold}
 use Rattle.alloc.specs.Calls as calls
 use Rattle.alloc.specs.Calls.{found, done, corrupted, changeAfter, allocationAfter, handingOut}
 use Rattle.alloc.specs.Checks.{stateCheck, pageCheck, countCheck}
@@ -16,8 +17,8 @@ use Rattle.alloc.specs.Several.{Handed, handedBy, allocationsAfter, onwa
 use Rattle.alloc.specs.State.{allFree, marked, freed}
 use Rattle.alloc.specs.declared.allocator.Allocator.{Allocator}
 use Rattle.alloc.specs.declared.answers.Change.{Change}
-use Rattle.alloc.specs.declared.answers.Outcome.{Outcome}
-use Rattle.alloc.specs.declared.answers.Outcome.the-variants as outcome
+use Rattle.types.specs.declared.answers.Outcome.{Outcome}
+use Rattle.types.specs.declared.answers.Outcome.the-variants as outcome
 use Rattle.types.specs.declared.refusal.Verdict.{Verdict}
 use Rattle.types.specs.declared.refusal.Verdict.the-variants.{Fine, Refused}
 

@@ -23,7 +23,7 @@ use Rattle.alloc.specs.declared.allocator.Allocator.{Allocator}
 use Rattle.alloc.specs.declared.answers.Allocations.{Allocations}
 use Rattle.alloc.specs.declared.answers.Change.{Change}
 use Rattle.alloc.specs.declared.answers.Count.the-variants as count
-use Rattle.alloc.specs.declared.answers.Outcome.the-variants as outcome
+use Rattle.types.specs.declared.answers.Outcome.the-variants as outcome
 use Rattle.alloc.proofs.HandedLaws.{found-free}
 use Rattle.alloc.proofs.KeptLaws.{marked-in, freed-in, movedPast-in, marked-sized, freed-sized}
 use Rattle.alloc.proofs.StateLaws.{InRange, Sound, is-in-range, state-fine}

@@ -1,7 +1,7 @@
 -- After a reset pages are handed out in turn: each once, and all of them. Assumes nothing.
 use mathlib.Core.Path.{_≡_, refl, sym, ap, ap₂, _∙_}
 use mathlib.Core.Bool.{true, false}
-use mathlib.Core.List.{List, _∷_, map}
+use mathlib.Core.List.{List, [], _∷_, map}
 use mathlib.Core.Logic.{inl, inr, ⊎-elim}
 use Prim.Native.Nat.{ℕ, zero, suc, _+_, _%_, _/_, _^_, _≤_, _<_}
 use native.Mathlib.Nat.{mod-lt, mod-add-mod, mod-eq-of-lt, zero-div}
@@ -13,7 +13,8 @@ use lib.ListN.{getD, replicate}
 use borrow.Author.Tests.{lt-ltb, le-ltb}
 use Rattle.types.specs.Build.{maxPageCount}
 use Rattle.types.proofs.TestLaws.{eq-or-ne, leb-iff}
-use Rattle.alloc.specs.Answers.{Told, nothing, value, allocatedTold, outcomeTold}
+use Rattle.types.specs.Answers.{Told, answered, outcomeTold}
+use Rattle.alloc.specs.Answers.{allocatedTold}
 use Rattle.alloc.specs.Calls as calls
 use Rattle.alloc.specs.History.{reset, tryAllocate, answerTo, leftBy, answersTo, leftAfter}
 use Rattle.alloc.specs.Marks.{isMarked}
@@ -82,7 +83,7 @@ module _ (count first : ℕ) (few : count ≤ maxPageCount) (fits : first < coun
 
   -- from there on pages go out one by one
   turns : (n i : ℕ) (a : Allocator) → Turned count first i a → i + n ≤ count
-      → answersTo a (replicate n tryAllocate) ≡ map (λ (j : ℕ). value (pos ((first + j) % count))) (upFrom i n)
+      → answersTo a (replicate n tryAllocate) ≡ map (λ (j : ℕ). answered ((first + j) % count ∷ [])) (upFrom i n)
   unfolding answersTo answerTo leftBy upFrom
   turns zero i a t h = refl
   turns (suc n) i a t h =
@@ -112,14 +113,14 @@ reset-done a count seed some few = rw (count-fine count some few)
 
 -- the i-th page is the seed's page and i on
 pub in-turn : (a : Allocator) (count seed n : ℕ) → 1 ≤ count → count ≤ maxPageCount → n ≤ count
-    → answersTo a (reset count seed ∷ replicate n tryAllocate) ≡ nothing ∷ map (λ (i : ℕ). value (pos ((seed + i) % count))) (upFrom 0 n)
+    → answersTo a (reset count seed ∷ replicate n tryAllocate) ≡ answered [] ∷ map (λ (i : ℕ). answered ((seed + i) % count ∷ [])) (upFrom 0 n)
 unfolding answersTo answerTo leftBy
 in-turn a count seed n some few h =
     let first = seed % count in
     let t : Turned count first 0 (allFree count first) = turned-none count first few (mod-lt seed some) in
-    let seeds : map (λ (j : ℕ). value (pos ((first + j) % count))) (upFrom 0 n) ≡ map (λ (i : ℕ). value (pos ((seed + i) % count))) (upFrom 0 n) = simp mod-add-mod in
+    let seeds : map (λ (j : ℕ). answered ((first + j) % count ∷ [])) (upFrom 0 n) ≡ map (λ (i : ℕ). answered ((seed + i) % count ∷ [])) (upFrom 0 n) = simp mod-add-mod in
     ap (λ (c : Change). outcomeTold (c .answer) ∷ answersTo (c .allocator) (replicate n tryAllocate)) (reset-done a count seed some few)
-    ∙ ap (λ (l : List Told). nothing ∷ l) (turns count first few (mod-lt seed some) n 0 (allFree count first) t (omega arith) ∙ seeds)
+    ∙ ap (λ (l : List Told). answered [] ∷ l) (turns count first few (mod-lt seed some) n 0 (allFree count first) t (omega arith) ∙ seeds)
 
 -- so they are different,
 pub turns-different : (count seed i j : ℕ) → i < count → j < count → (seed + i) % count ≡ (seed + j) % count → i ≡ j

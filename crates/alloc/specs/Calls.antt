@@ -19,7 +19,7 @@ use Rattle.alloc.specs.declared.answers.Count.{Count}
 use Rattle.alloc.specs.declared.answers.Count.the-variants as count
 use Rattle.alloc.specs.declared.answers.Margin.{Margin}
 use Rattle.alloc.specs.declared.answers.Margin.the-variants as margin
-use Rattle.alloc.specs.declared.answers.Outcome.the-variants as outcome
+use Rattle.types.specs.declared.answers.Outcome.the-variants as outcome
 use Rattle.alloc.specs.declared.answers.Usage.{Usage}
 use Rattle.alloc.specs.declared.answers.Usage.the-variants as usage
 use Rattle.types.specs.declared.refusal.Verdict.{Verdict}

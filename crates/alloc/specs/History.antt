@@ -1,7 +1,8 @@
 -- Calls one after another, each on the allocator that the one before left. Assumes nothing.
 use mathlib.Core.List.{List, [], _∷_}
 use Prim.Native.Nat.{ℕ}
-use Rattle.alloc.specs.Answers.{Told, allocatedTold, outcomeTold, usageTold, countTold, pagesTold, marginTold}
+use Rattle.types.specs.Answers.{Told, outcomeTold}
+use Rattle.alloc.specs.Answers.{allocatedTold, usageTold, countTold, pagesTold, marginTold}
 use Rattle.alloc.specs.Calls as calls
 use Rattle.alloc.specs.Several as several
 use Rattle.alloc.specs.declared.allocator.Allocator.{Allocator}

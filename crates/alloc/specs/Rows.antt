@@ -1,9 +1,9 @@
 -- The reference cases of the allocator (docs/RULES.md, Reference cases), as data: calls on a new allocator, and what they answer;
 -- and rows of the calls for several pages, on the same numbers. Assumes nothing.
 use mathlib.Core.List.{List, [], _∷_}
-use lib.IntN.{pos, negsuc}
+use lib.IntN.{negsuc}
 use Rattle.types.specs.declared.refusal.Refusal.the-variants.{Corrupted, OutOfRange}
-use Rattle.alloc.specs.Answers.{Told, nothing, value, refusal}
+use Rattle.types.specs.Answers.{Told, answered, refusal}
 use Rattle.alloc.specs.History.{Call, reset, tryAllocate, free, freePages, margin, tryAllocateEach, freeEach, answersTo}
 use Rattle.alloc.specs.State.{allFree}
 
@@ -20,7 +20,7 @@ abbrev pub inTurn : Row
 inTurn =
     record {
       calls = reset 4 7 ∷ tryAllocate ∷ tryAllocate ∷ tryAllocate ∷ tryAllocate ∷ tryAllocate ∷ free 1 ∷ tryAllocate ∷ [];
-      answers = nothing ∷ value (pos 3) ∷ value (pos 0) ∷ value (pos 1) ∷ value (pos 2) ∷ nothing ∷ nothing ∷ value (pos 1) ∷ [];
+      answers = answered [] ∷ answered (3 ∷ []) ∷ answered (0 ∷ []) ∷ answered (1 ∷ []) ∷ answered (2 ∷ []) ∷ answered [] ∷ answered [] ∷ answered (1 ∷ []) ∷ [];
     }
 
 -- 100 pages free, 101 wanted: -1
@@ -28,7 +28,7 @@ abbrev pub tooFew : Row
 tooFew =
     record {
       calls = reset 100 0 ∷ freePages ∷ margin 101 ∷ [];
-      answers = nothing ∷ value (pos 100) ∷ value (negsuc 0) ∷ [];
+      answers = answered [] ∷ answered (100 ∷ []) ∷ record { number = 0; values = negsuc 0 ∷ [] } ∷ [];
     }
 
 abbrev pub rows : List Row
@@ -42,12 +42,12 @@ eachInTurn =
     record {
       calls = reset 4 7 ∷ tryAllocateEach 6 ∷ tryAllocateEach 1 ∷ freeEach (1 ∷ []) ∷ tryAllocateEach 0 ∷ tryAllocateEach 2 ∷ [];
       answers =
-          nothing
-          ∷ record { number = 0; values = pos 4 ∷ pos 3 ∷ pos 0 ∷ pos 1 ∷ pos 2 ∷ [] }
-          ∷ value (pos 0)
-          ∷ nothing
-          ∷ value (pos 0)
-          ∷ record { number = 0; values = pos 1 ∷ pos 1 ∷ [] }
+          answered []
+          ∷ answered (4 ∷ 3 ∷ 0 ∷ 1 ∷ 2 ∷ [])
+          ∷ answered (0 ∷ [])
+          ∷ answered []
+          ∷ answered (0 ∷ [])
+          ∷ answered (1 ∷ 1 ∷ [])
           ∷ [];
     }
 
@@ -59,16 +59,16 @@ allOrNone =
           reset 4 7 ∷ tryAllocateEach 4 ∷ freeEach (0 ∷ 2 ∷ 0 ∷ []) ∷ freeEach (0 ∷ 4 ∷ []) ∷ freeEach (0xFFFF ∷ 0 ∷ 0 ∷ []) ∷ freeEach (0 ∷ 0 ∷ 4 ∷ []) ∷ freePages
           ∷ freeEach (3 ∷ 0 ∷ []) ∷ freeEach [] ∷ freePages ∷ [];
       answers =
-          nothing
-          ∷ record { number = 0; values = pos 4 ∷ pos 3 ∷ pos 0 ∷ pos 1 ∷ pos 2 ∷ [] }
+          answered []
+          ∷ answered (4 ∷ 3 ∷ 0 ∷ 1 ∷ 2 ∷ [])
           ∷ refusal Corrupted
           ∷ refusal OutOfRange
           ∷ refusal OutOfRange
           ∷ refusal Corrupted
-          ∷ value (pos 0)
-          ∷ nothing
-          ∷ nothing
-          ∷ value (pos 2)
+          ∷ answered (0 ∷ [])
+          ∷ answered []
+          ∷ answered []
+          ∷ answered (2 ∷ [])
           ∷ [];
     }
 

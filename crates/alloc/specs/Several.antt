@@ -13,8 +13,8 @@ use Rattle.alloc.specs.declared.answers.Allocated.the-variants as alloca
 use Rattle.alloc.specs.declared.answers.Allocations.{Allocations}
 use Rattle.alloc.specs.declared.answers.Change.{Change}
 use Rattle.alloc.specs.declared.answers.Count.the-variants as count
-use Rattle.alloc.specs.declared.answers.Outcome.{Outcome}
-use Rattle.alloc.specs.declared.answers.Outcome.the-variants as outcome
+use Rattle.types.specs.declared.answers.Outcome.{Outcome}
+use Rattle.types.specs.declared.answers.Outcome.the-variants as outcome
 
 -- ---- try_allocate_each
 

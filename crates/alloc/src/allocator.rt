@@ -7,11 +7,11 @@ use super::answers::Allocation;
 use super::answers::Change;
 use super::answers::Count;
 use super::answers::Margin;
-use super::answers::Outcome;
 use super::answers::Usage;
 use super::checks;
 use super::marks;
 use super::state;
+use types::answers::Outcome;
 use types::config::MAX_PAGE_COUNT;
 use types::page_id::MaybePageID;
 use types::page_id::PageID;
@@ -47,9 +47,9 @@ impl Allocator {
     pub fn reset(self, count: usize, seed: u32) -> Change
         ensures answers { λ r. ⌜ r ≡ reset self count seed ⌝ }
     {
-        if let Verdict::Refused(no) = checks::count_check(count) {
+        if let Verdict::Refused(why) = checks::count_check(count) {
             return Change {
-                answer: Outcome::Refused(no),
+                answer: Outcome::Refused(why),
                 allocator: self,
             };
         }
@@ -68,9 +68,9 @@ impl Allocator {
     pub fn try_allocate(self) -> Allocation
         ensures answers { λ r. ⌜ r ≡ tryAllocate self ⌝ }
     {
-        if let Verdict::Refused(no) = checks::state_check(self) {
+        if let Verdict::Refused(why) = checks::state_check(self) {
             return Allocation {
-                answer: Allocated::Refused(no),
+                answer: Allocated::Refused(why),
                 allocator: self,
             };
         }
@@ -94,9 +94,9 @@ impl Allocator {
     pub fn mark_used(self, page: PageID) -> Change
         ensures answers { λ r. ⌜ r ≡ markUsed self page ⌝ }
     {
-        if let Verdict::Refused(no) = checks::page_check(self, page) {
+        if let Verdict::Refused(why) = checks::page_check(self, page) {
             return Change {
-                answer: Outcome::Refused(no),
+                answer: Outcome::Refused(why),
                 allocator: self,
             };
         }
@@ -116,9 +116,9 @@ impl Allocator {
     pub fn free(self, page: PageID) -> Change
         ensures answers { λ r. ⌜ r ≡ free self page ⌝ }
     {
-        if let Verdict::Refused(no) = checks::page_check(self, page) {
+        if let Verdict::Refused(why) = checks::page_check(self, page) {
             return Change {
-                answer: Outcome::Refused(no),
+                answer: Outcome::Refused(why),
                 allocator: self,
             };
         }
@@ -138,8 +138,8 @@ impl Allocator {
     pub fn is_used(self, page: PageID) -> Usage
         ensures answers { λ r. ⌜ r ≡ isUsed self page ⌝ }
     {
-        if let Verdict::Refused(no) = checks::page_check(self, page) {
-            return Usage::Refused(no);
+        if let Verdict::Refused(why) = checks::page_check(self, page) {
+            return Usage::Refused(why);
         }
         if marks::is_marked(&self.pages, page.index()) {
             Usage::Used
@@ -153,7 +153,7 @@ impl Allocator {
     {
         match checks::state_check(self) {
             Verdict::Fine => Count::Pages(self.used),
-            Verdict::Refused(no) => Count::Refused(no),
+            Verdict::Refused(why) => Count::Refused(why),
         }
     }
 
@@ -162,7 +162,7 @@ impl Allocator {
     {
         match checks::state_check(self) {
             Verdict::Fine => Count::Pages(self.page_count - self.used),
-            Verdict::Refused(no) => Count::Refused(no),
+            Verdict::Refused(why) => Count::Refused(why),
         }
     }
 
@@ -171,7 +171,7 @@ impl Allocator {
     {
         match checks::state_check(self) {
             Verdict::Fine => Count::Pages(self.page_count),
-            Verdict::Refused(no) => Count::Refused(no),
+            Verdict::Refused(why) => Count::Refused(why),
         }
     }
 
@@ -183,7 +183,7 @@ impl Allocator {
             Verdict::Fine => Margin::Pages(
                 (self.page_count - self.used) as isize - wanted as isize,
             ),
-            Verdict::Refused(no) => Margin::Refused(no),
+            Verdict::Refused(why) => Margin::Refused(why),
         }
     }
 }

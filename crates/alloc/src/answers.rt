@@ -1,8 +1,11 @@
-// What the calls answer. Each answer has a case for the refusals, and the number of the row that refuses, 0 where none does.
-// A call that changes the allocator hands it back beside its answer.
+// What the calls answer. Each answer type hands out the number of the row that refuses, 0 where none does, and its values,
+// where it has any. A call that changes the allocator hands it back beside its answer.
 ghost use mathlib.Core.Path.{_≡_};
-ghost use Rattle.alloc.specs.Answers.{allocatedTold, outcomeTold, usageTold, countTold, marginTold};
+ghost use lib.Dec.{eqb};
+ghost use Rattle.types.specs.Answers.{valueOr, sizeOr};
+ghost use Rattle.alloc.specs.Answers.{allocatedTold, usageTold, countTold, marginTold};
 use super::allocator::Allocator;
+use types::answers::Outcome;
 use types::page_id::PageID;
 use types::refusal::Refusal;
 
@@ -20,7 +23,18 @@ impl Allocated {
         match self {
             Allocated::Page(_) => 0,
             Allocated::None => 0,
-            Allocated::Refused(no) => no.number(),
+            Allocated::Refused(why) => why.number(),
+        }
+    }
+
+    // The page, or another one where there is none and where the call was refused.
+    pub fn page_or(self, other: PageID) -> PageID
+        ensures answers { λ r. ⌜ r .0 ≡ sizeOr (other .0) 0 (allocatedTold self) ⌝ }
+    {
+        match self {
+            Allocated::Page(page) => page,
+            Allocated::None => other,
+            Allocated::Refused(_) => other,
         }
     }
 }
@@ -37,22 +51,6 @@ pub struct Allocations {
 }
 
 // The answer of reset, mark_used, free and free_each.
-pub enum Outcome {
-    Done,
-    Refused(Refusal),
-}
-
-impl Outcome {
-    pub fn number(self) -> u8
-        ensures answers { λ r. ⌜ r ≡ outcomeTold self .number ⌝ }
-    {
-        match self {
-            Outcome::Done => 0,
-            Outcome::Refused(no) => no.number(),
-        }
-    }
-}
-
 pub struct Change {
     pub answer: Outcome,
     pub allocator: Allocator,
@@ -72,7 +70,18 @@ impl Usage {
         match self {
             Usage::Used => 0,
             Usage::Free => 0,
-            Usage::Refused(no) => no.number(),
+            Usage::Refused(why) => why.number(),
+        }
+    }
+
+    // Whether the page is known to be used: not so where the call was refused.
+    pub fn is_used(self) -> bool
+        ensures answers { λ r. ⌜ r ≡ eqb (sizeOr 0 0 (usageTold self)) 1 ⌝ }
+    {
+        match self {
+            Usage::Used => true,
+            Usage::Free => false,
+            Usage::Refused(_) => false,
         }
     }
 }
@@ -89,7 +98,17 @@ impl Count {
     {
         match self {
             Count::Pages(_) => 0,
-            Count::Refused(no) => no.number(),
+            Count::Refused(why) => why.number(),
+        }
+    }
+
+    // How many pages, 0 where the call was refused.
+    pub fn pages(self) -> usize
+        ensures answers { λ r. ⌜ r ≡ sizeOr 0 0 (countTold self) ⌝ }
+    {
+        match self {
+            Count::Pages(n) => n,
+            Count::Refused(_) => 0,
         }
     }
 }
@@ -106,7 +125,17 @@ impl Margin {
     {
         match self {
             Margin::Pages(_) => 0,
-            Margin::Refused(no) => no.number(),
+            Margin::Refused(why) => why.number(),
+        }
+    }
+
+    // How many pages, or another number where the call was refused.
+    pub fn pages_or(self, other: isize) -> isize
+        ensures answers { λ r. ⌜ r ≡ valueOr other 0 (marginTold self) ⌝ }
+    {
+        match self {
+            Margin::Pages(n) => n,
+            Margin::Refused(_) => other,
         }
     }
 }

@@ -3,15 +3,15 @@ ghost use mathlib.Core.Path.{_≡_};
 ghost use lib.ListN.{length};
 ghost use Rattle.alloc.specs.Several.{allocateEach, placesAfter, freeEach};
 ghost use Rattle.alloc.specs.declared.answers.Count.the-variants.{Pages};
-ghost use Rattle.alloc.specs.declared.answers.Outcome.the-variants.{Refused};
+ghost use Rattle.types.specs.declared.answers.Outcome.the-variants.{Refused};
 use super::allocator::Allocator;
 use super::answers::Allocations;
 use super::answers::Change;
 use super::answers::Count;
-use super::answers::Outcome;
 use super::checks;
 use super::marks;
 use super::state;
+use types::answers::Outcome;
 use types::page_id::MaybePageID;
 use types::refusal::Refusal;
 use types::refusal::Verdict;
@@ -25,11 +25,11 @@ fn handed(n: usize, left: Allocator) -> Allocations
     }
 }
 
-fn refused(no: Refusal, start: Allocator) -> Change
-    ensures answers { λ r. ⌜ r ≡ record { answer = Refused no; allocator = start } ⌝ }
+fn refused(why: Refusal, start: Allocator) -> Change
+    ensures answers { λ r. ⌜ r ≡ record { answer = Refused why; allocator = start } ⌝ }
 {
     Change {
-        answer: Outcome::Refused(no),
+        answer: Outcome::Refused(why),
         allocator: start,
     }
 }
@@ -39,9 +39,9 @@ pub fn try_allocate_each(a: Allocator, places: &mut [u16]) -> Allocations
     ensures answers { λ r. ⌜ r ≡ allocateEach a (length (now (places .entry))) ⌝ }
     ensures bytes { λ _. ⌜ now (places .exit) ≡ placesAfter a (now (places .entry)) ⌝ }
 {
-    if let Verdict::Refused(no) = checks::state_check(a) {
+    if let Verdict::Refused(why) = checks::state_check(a) {
         return Allocations {
-            answer: Count::Refused(no),
+            answer: Count::Refused(why),
             allocator: a,
         };
     }
@@ -84,8 +84,8 @@ pub fn try_allocate_each(a: Allocator, places: &mut [u16]) -> Allocations
 pub fn free_each(a: Allocator, freed: &[u16]) -> Change
     ensures answers { λ r. ⌜ r ≡ freeEach a (now (freed .entry)) ⌝ }
 {
-    if let Verdict::Refused(no) = checks::state_check(a) {
-        return refused(no, a);
+    if let Verdict::Refused(why) = checks::state_check(a) {
+        return refused(why, a);
     }
     let mut pages = a.pages;
     let mut used = a.used;

@@ -6,7 +6,7 @@ use native.Mathlib.Omega.{arith}
 use Rattle.types.specs.Build.{maxPageCount}
 use Rattle.types.specs.Refusals.{numberOf}
 use Rattle.types.specs.declared.refusal.Refusal.{Refusal}
-use Rattle.alloc.specs.Answers.{outcomeTold}
+use Rattle.types.specs.Answers.{outcomeTold}
 use Rattle.alloc.specs.Calls.{reset, tryAllocate, free}
 use Rattle.alloc.specs.State.{allFree}
 use Rattle.alloc.specs.declared.allocator.Allocator.{Allocator}

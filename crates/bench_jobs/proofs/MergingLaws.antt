@@ -10,13 +10,13 @@ use Rattle.types.specs.Refusals.{numberOf}
 use Rattle.types.specs.declared.refusal.Refusal.{Refusal}
 use Rattle.slices.specs.Fields.{field}
 use Rattle.run.specs.declared.bound.Bound.the-variants.{Unbounded}
-use Rattle.cursor.specs.Answers.{newNumber}
+use Rattle.types.specs.Answers.{outcomeTold}
 use Rattle.cursor.specs.New.{newOf}
 use Rattle.cursor.specs.Next.{nextOf, nextKey, nextValue}
-use Rattle.cursor.specs.declared.answer.Moved.{Moved}
-use Rattle.cursor.specs.declared.answer.NewCursor.{NewCursor}
-use Rattle.cursor.specs.declared.answer.NextAnswer.{NextAnswer}
-use Rattle.cursor.specs.declared.answer.NextAnswer.the-variants.{End, Entry, Refused}
+use Rattle.cursor.specs.declared.answers.Moved.{Moved}
+use Rattle.cursor.specs.declared.answers.NewCursor.{NewCursor}
+use Rattle.cursor.specs.declared.answers.NextAnswer.{NextAnswer}
+use Rattle.cursor.specs.declared.answers.NextAnswer.the-variants.{End, Entry, Refused}
 use Rattle.bench_jobs.specs.Merges.{MergeState, stateOf, summed, isEntry, afterNext, mergeOne, begunBy, begun, mergeOn, mergeAll}
 use Rattle.bench_jobs.specs.Telling.{mixed}
 use Rattle.bench_jobs.specs.declared.merging.Merging.{Merging}
@@ -65,7 +65,7 @@ module _ (runs ends : List ℕ) (m : Merging) (key value key′ value′ : List 
       afterNext (m .sum) x (nextKey runs ends Unbounded [] (m .cursor) key value) (nextValue runs ends Unbounded [] (m .cursor) key value) .merging)
       called
 
-pub begun-by : (runs ends : List ℕ) (made : NewCursor) (n : ℕ) → made ≡ newOf runs ends Unbounded [] → n ≡ newNumber (made .answer)
+pub begun-by : (runs ends : List ℕ) (made : NewCursor) (n : ℕ) → made ≡ newOf runs ends Unbounded [] → n ≡ outcomeTold (made .answer) .number
     → _≡_ {A = Merging} (record { cursor = made .cursor; sum = n; on = eqb n 0 }) (begun runs ends)
 unfolding begun
 begun-by runs ends made n new number =

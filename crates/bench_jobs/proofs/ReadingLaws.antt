@@ -15,8 +15,8 @@ use Rattle.reader.proofs.RoomLaws.{read-most}
 use Rattle.reader.specs.declared.answers.Count.{Count}
 use Rattle.reader.specs.declared.answers.Count.the-variants as count
 use Rattle.reader.specs.declared.answers.Opening.{Opening}
-use Rattle.reader.specs.declared.answers.Outcome.{Outcome}
-use Rattle.reader.specs.declared.answers.Outcome.the-variants as outcome
+use Rattle.types.specs.declared.answers.Outcome.{Outcome}
+use Rattle.types.specs.declared.answers.Outcome.the-variants as outcome
 use Rattle.reader.specs.declared.answers.Passage.{Passage}
 use Rattle.reader.specs.declared.page_reader.PageReader.{PageReader}
 use Rattle.bench_jobs.specs.Readings.{ReadState, stateOf, putAt, afterRead, passed, readFrom, readOne, readOn, readAll, readingAt, openedAs, readPage, toldOf}

@@ -7,7 +7,7 @@ use lib.ListN.{length, take, drop}
 use Rattle.types.specs.Refusals.{numberOf}
 use Rattle.types.specs.declared.refusal.Refusal.{Refusal}
 use Rattle.slices.proofs.PatchLaws.{take-least}
-use Rattle.alloc.specs.Answers.{outcomeTold}
+use Rattle.types.specs.Answers.{outcomeTold}
 use Rattle.alloc.specs.Calls.{freePages}
 use Rattle.alloc.specs.Several.{allocateEach, placesAfter, freeEach}
 use Rattle.alloc.specs.declared.allocator.Allocator.{Allocator}

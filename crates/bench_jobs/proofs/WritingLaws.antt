@@ -10,7 +10,7 @@ use borrow.Author.Tests.{eq-eqb, ne-eqb}
 use Rattle.types.specs.Build.{eraseValue}
 use Rattle.types.specs.Refusals.{numberOf}
 use Rattle.types.specs.declared.refusal.Refusal.{Refusal}
-use Rattle.writer.specs.Answers.{outcomeTold}
+use Rattle.types.specs.Answers.{outcomeTold}
 use Rattle.writer.specs.Duties.{Duty, writeDuty, headingDuty, handsBack, leaves}
 use Rattle.writer.specs.Openings.{opened}
 use Rattle.writer.specs.Outcomes.{took, wrote}
@@ -18,10 +18,8 @@ use Rattle.writer.specs.States.{newWriter}
 use Rattle.writer.specs.Writes.{takes}
 use Rattle.writer.specs.declared.answers.Ended.{Ended}
 use Rattle.writer.specs.declared.answers.Opened.{Opened}
-use Rattle.writer.specs.declared.answers.Opening.{Opening}
-use Rattle.writer.specs.declared.answers.Opening.the-variants as opening
-use Rattle.writer.specs.declared.answers.Outcome.{Outcome}
-use Rattle.writer.specs.declared.answers.Outcome.the-variants as outcome
+use Rattle.types.specs.declared.answers.Outcome.{Outcome}
+use Rattle.types.specs.declared.answers.Outcome.the-variants as outcome
 use Rattle.writer.specs.declared.answers.Taking.{Taking}
 use Rattle.writer.specs.declared.answers.Taking.the-variants as taking
 use Rattle.writer.specs.declared.answers.Wrote.{Wrote}
@@ -49,25 +47,25 @@ module _ (flash : List ℕ) (magic page : ℕ) (header : List ℕ) (left : ℕ) 
       → (w ≡ begun flash magic page header left .writing) × (flash′ ≡ begun flash magic page header left .flash)
   both w flash′ e = (ap (λ (s : WriteState). s .writing) (e ∙ starts), ap (λ (s : WriteState). s .flash) (e ∙ starts))
 
-  pub begun-refused : (why : Refusal) (n : ℕ) → o .answer ≡ opening.Refused why → n ≡ numberOf why
+  pub begun-refused : (why : Refusal) (n : ℕ) → o .answer ≡ outcome.Refused why → n ≡ numberOf why
       → (_≡_ {A = Writing} (record { writer = o .writer; left = o .left; taken = 0; on = false; why = n }) (begun flash magic page header left .writing))
       × (flash ≡ begun flash magic page header left .flash)
   begun-refused why n known number =
       both (record { writer = o .writer; left = o .left; taken = 0; on = false; why = n }) flash
       (ap (λ (k : ℕ). stateOf (record { writer = o .writer; left = o .left; taken = 0; on = false; why = k }) flash) number
-      ∙ ap (λ (a : Opening). begunAt a (o .writer) (o .left) flash magic header) (sym known))
+      ∙ ap (λ (a : Outcome). begunAt a (o .writer) (o .left) flash magic header) (sym known))
 
   abbrev heading : Duty
   heading = headingDuty eraseValue flash (o .writer) magic header
 
-  pub begun-open : (e : Ended) (w : Writing) (flash′ : List ℕ) → o .answer ≡ opening.Open → e ≡ handsBack heading (o .writer) (o .left)
+  pub begun-open : (e : Ended) (w : Writing) (flash′ : List ℕ) → o .answer ≡ outcome.Done → e ≡ handsBack heading (o .writer) (o .left)
       → flash′ ≡ leaves heading (o .writer) (o .left) flash → w ≡ afterHeader e
       → (w ≡ begun flash magic page header left .writing) × (flash′ ≡ begun flash magic page header left .flash)
   begun-open e w flash′ known heads stores after =
       both w flash′
       (ap (λ (x : Writing). stateOf x flash′) (after ∙ ap afterHeader heads)
       ∙ ap (λ (x : List ℕ). stateOf (afterHeader (handsBack heading (o .writer) (o .left))) x) stores
-      ∙ ap (λ (a : Opening). begunAt a (o .writer) (o .left) flash magic header) (sym known))
+      ∙ ap (λ (a : Outcome). begunAt a (o .writer) (o .left) flash magic header) (sym known))
 
 -- ---- one write
 

@@ -2,7 +2,7 @@
 use Prim.Native.Nat.{ℕ, zero, suc, _+_}
 use Rattle.types.specs.Build.{maxPageCount}
 use Rattle.types.specs.Refusals.{numberOf}
-use Rattle.alloc.specs.Answers.{outcomeTold}
+use Rattle.types.specs.Answers.{outcomeTold}
 use Rattle.alloc.specs.Calls.{reset, tryAllocate, free}
 use Rattle.alloc.specs.State.{allFree}
 use Rattle.alloc.specs.declared.answers.Allocated.{Allocated}

@@ -7,13 +7,13 @@ use lib.ListN.{length}
 use Rattle.types.specs.Refusals.{numberOf}
 use Rattle.slices.specs.Fields.{field}
 use Rattle.run.specs.declared.bound.Bound.the-variants.{Unbounded}
-use Rattle.cursor.specs.Answers.{newNumber}
+use Rattle.types.specs.Answers.{outcomeTold}
 use Rattle.cursor.specs.New.{newOf}
 use Rattle.cursor.specs.Next.{nextOf, nextKey, nextValue}
-use Rattle.cursor.specs.declared.answer.Moved.{Moved}
-use Rattle.cursor.specs.declared.answer.NewCursor.{NewCursor}
-use Rattle.cursor.specs.declared.answer.NextAnswer.{NextAnswer}
-use Rattle.cursor.specs.declared.answer.NextAnswer.the-variants.{End, Entry, Refused}
+use Rattle.cursor.specs.declared.answers.Moved.{Moved}
+use Rattle.cursor.specs.declared.answers.NewCursor.{NewCursor}
+use Rattle.cursor.specs.declared.answers.NextAnswer.{NextAnswer}
+use Rattle.cursor.specs.declared.answers.NextAnswer.the-variants.{End, Entry, Refused}
 use Rattle.bench_jobs.specs.Telling.{mixed}
 use Rattle.bench_jobs.specs.declared.merging.Merging.{Merging}
 
@@ -60,7 +60,7 @@ mergeOn (suc n) runs ends s = cond (s .merging .on) (mergeOn n runs ends (mergeO
 
 -- a cursor over all runs, from the first key on; a refused one does not go on
 abbrev pub begunBy : NewCursor → Merging
-begunBy made = record { cursor = made .cursor; sum = newNumber (made .answer); on = eqb (newNumber (made .answer)) 0 }
+begunBy made = record { cursor = made .cursor; sum = outcomeTold (made .answer) .number; on = eqb (outcomeTold (made .answer) .number) 0 }
 
 unfoldable pub begun : List ℕ → List ℕ → Merging
 begun runs ends = begunBy (newOf runs ends Unbounded [])

@@ -3,7 +3,7 @@ use mathlib.Core.List.{List}
 use Prim.Native.Nat.{ℕ, _+_}
 use lib.ListN.{length, take}
 use Rattle.types.specs.Refusals.{numberOf}
-use Rattle.alloc.specs.Answers.{outcomeTold}
+use Rattle.types.specs.Answers.{outcomeTold}
 use Rattle.alloc.specs.Calls.{freePages}
 use Rattle.alloc.specs.Several.{allocateEach, placesAfter, freeEach}
 use Rattle.alloc.specs.declared.allocator.Allocator.{Allocator}

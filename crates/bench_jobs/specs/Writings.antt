@@ -6,7 +6,7 @@ use lib.Dec.{eqb}
 use lib.ListN.{length, take, drop}
 use Rattle.types.specs.Build.{pageSize, eraseValue}
 use Rattle.types.specs.Refusals.{numberOf}
-use Rattle.writer.specs.Answers.{outcomeTold}
+use Rattle.types.specs.Answers.{outcomeTold}
 use Rattle.writer.specs.Duties.{Duty, writeDuty, commitDuty, headingDuty, handsBack, leaves}
 use Rattle.writer.specs.Openings.{opened}
 use Rattle.writer.specs.Outcomes.{wrote}
@@ -14,8 +14,8 @@ use Rattle.writer.specs.States.{newWriter}
 use Rattle.writer.specs.Writes.{takes}
 use Rattle.writer.specs.declared.answers.Ended.{Ended}
 use Rattle.writer.specs.declared.answers.Opened.{Opened}
-use Rattle.writer.specs.declared.answers.Opening.{Opening}
-use Rattle.writer.specs.declared.answers.Opening.the-variants as opening
+use Rattle.types.specs.declared.answers.Outcome.{Outcome}
+use Rattle.types.specs.declared.answers.Outcome.the-variants as outcome
 use Rattle.writer.specs.declared.answers.Taking.{Taking}
 use Rattle.writer.specs.declared.answers.Taking.the-variants as taking
 use Rattle.writer.specs.declared.answers.Wrote.{Wrote}
@@ -45,11 +45,11 @@ afterHeader e =
     }
 
 -- a writer that was opened stores the page header, a refused one is not used
-abbrev pub begunAt : Opening → PageWriter → ℕ → List ℕ → ℕ → List ℕ → WriteState
-begunAt opening.Open w left flash magic header =
+abbrev pub begunAt : Outcome → PageWriter → ℕ → List ℕ → ℕ → List ℕ → WriteState
+begunAt outcome.Done w left flash magic header =
     let d = headingDuty eraseValue flash w magic header in
     record { writing = afterHeader (handsBack d w left); flash = leaves d w left flash }
-begunAt (opening.Refused why) w left flash magic header =
+begunAt (outcome.Refused why) w left flash magic header =
     record { writing = record { writer = w; left = left; taken = 0; on = false; why = numberOf why }; flash = flash }
 
 abbrev pub begunBy : Opened → List ℕ → ℕ → List ℕ → WriteState

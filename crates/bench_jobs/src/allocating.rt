@@ -21,7 +21,7 @@ fn code_of(answer: Allocated) -> u64
     match answer {
         Allocated::Page(page) => page.0 as u64,
         Allocated::None => 0x1_0000,
-        Allocated::Refused(no) => 0x1_0000 + no.number() as u64,
+        Allocated::Refused(why) => 0x1_0000 + why.number() as u64,
     }
 }
 

@@ -1,6 +1,6 @@
 // A merge of all runs, entry by entry.
 use crate::telling::mixed;
-use cursor::answer::NextAnswer;
+use cursor::answers::NextAnswer;
 use cursor::place::Cursor;
 use run::bound::Bound;
 use slices::field::get32;
@@ -24,7 +24,7 @@ fn summed(sum: u64, answer: NextAnswer, key: &[u8], value: &[u8]) -> u64
             let lengths = mixed(mixed(sum, key_len as u64), value_len as u64);
             mixed(mixed(lengths, get32(key, 0) as u64), get32(value, 0) as u64)
         }
-        NextAnswer::Refused(no) => mixed(sum, no.number() as u64),
+        NextAnswer::Refused(why) => mixed(sum, why.number() as u64),
     }
 }
 

@@ -1,8 +1,8 @@
 // A page, read to its end or to its first empty chunk, where a read answers 0 too.
 use crate::telling::told;
 use reader::answers::Count;
-use reader::answers::Outcome;
 use reader::page_reader::PageReader;
+use types::answers::Outcome;
 use types::config::PAGE_SIZE;
 use types::num::least;
 use types::page_id::PageID;
@@ -37,11 +37,11 @@ fn read_one(r: Reading, flash: &[u8], out: &mut [u8]) -> Reading
             on: n != 0,
             why: 0,
         },
-        Count::Refused(no) => Reading {
+        Count::Refused(why) => Reading {
             reader: next,
             put: from,
             on: false,
-            why: no.number(),
+            why: why.number(),
         },
     }
 }
@@ -74,11 +74,11 @@ fn reading_at(reader: PageReader, answer: Outcome) -> Reading
             on: true,
             why: 0,
         },
-        Outcome::Refused(no) => Reading {
+        Outcome::Refused(why) => Reading {
             reader,
             put: 0,
             on: false,
-            why: no.number(),
+            why: why.number(),
         },
     }
 }

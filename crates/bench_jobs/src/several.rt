@@ -25,7 +25,7 @@ fn count_code(answer: Count) -> u64
 {
     match answer {
         Count::Pages(n) => n as u64,
-        Count::Refused(no) => 0x1_0000 + no.number() as u64,
+        Count::Refused(why) => 0x1_0000 + why.number() as u64,
     }
 }
 

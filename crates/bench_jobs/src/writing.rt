@@ -1,11 +1,11 @@
 // A page, written anew and committed.
 use crate::telling::told;
 use slices::part::part_of;
+use types::answers::Outcome;
 use types::config::PAGE_SIZE;
 use types::num::least;
 use types::page_id::PageID;
 use writer::answers::Ended;
-use writer::answers::Opening;
 use writer::answers::Taking;
 use writer::answers::Wrote;
 use writer::page_writer::PageWriter;
@@ -45,13 +45,13 @@ fn begun(flash: &mut [u8], magic: u32, page: u16, header: &[u8], left: usize) ->
     let opened = PageWriter::new().open(flash, PageID(page), header.len(), left);
     let answer = opened.answer;
     let writer = opened.writer;
-    if let Opening::Refused(no) = answer {
+    if let Outcome::Refused(why) = answer {
         return Writing {
             writer,
             left: opened.left,
             taken: 0,
             on: false,
-            why: no.number(),
+            why: why.number(),
         };
     }
     after_header(writer.write_header(flash, magic, header, opened.left))
@@ -72,12 +72,12 @@ fn after_write(from: usize, w: Wrote) -> Writing
             on: n != 0,
             why: 0,
         },
-        Taking::Refused(no) => Writing {
+        Taking::Refused(why) => Writing {
             writer,
             left: w.left,
             taken: from,
             on: false,
-            why: no.number(),
+            why: why.number(),
         },
     }
 }

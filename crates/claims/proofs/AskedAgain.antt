@@ -10,25 +10,24 @@ use Rattle.types.specs.declared.refusal.Refusal.{Refusal}
 use Rattle.flash.specs.Geometry.{pageOf}
 use Rattle.page.specs.Headers.{headerOf}
 use Rattle.run.specs.declared.bound.Bound.{Bound}
-use Rattle.reader.specs.Answers.{outcomeTold, countTold, endTestTold, dehydrationTold, pageTold}
+use Rattle.types.specs.Answers.{outcomeTold, pageOfTold}
+use Rattle.reader.specs.Answers.{countTold, endTestTold, dehydrationTold}
 use Rattle.reader.specs.Calls.{filled, readHeader, readHeaderBytes, openPage, openBytes, read, skip, isAtEof, dehydrate, rehydrateFrom, pageId}
 use Rattle.reader.specs.declared.answers.Count.{Count}
 use Rattle.reader.specs.declared.answers.Count.the-variants as count
 use Rattle.reader.specs.declared.answers.EndTest.{EndTest}
 use Rattle.reader.specs.declared.answers.EndTest.the-variants as endTest
-use Rattle.reader.specs.declared.answers.Outcome.{Outcome}
-use Rattle.reader.specs.declared.answers.Outcome.the-variants as outcome
+use Rattle.types.specs.declared.answers.Outcome.{Outcome}
+use Rattle.types.specs.declared.answers.Outcome.the-variants as outcome
 use Rattle.reader.specs.declared.answers.Passage.{Passage}
 use Rattle.reader.specs.declared.page_reader.PageReader.{PageReader}
 use Rattle.reader.proofs.AgainLaws.{read-refused-so, skip-kept, eof-kept, open-reader-kept, rehydrate-kept}
-use Rattle.cursor.specs.Answers.{newNumber, nextNumber}
+use Rattle.cursor.specs.Answers.{nextTold}
 use Rattle.cursor.specs.New.{newOf}
 use Rattle.cursor.specs.Next.{nextOf}
-use Rattle.cursor.specs.declared.answer.Moved.{Moved}
-use Rattle.cursor.specs.declared.answer.NewAnswer.{NewAnswer}
-use Rattle.cursor.specs.declared.answer.NewAnswer.the-variants as new
-use Rattle.cursor.specs.declared.answer.NextAnswer.{NextAnswer}
-use Rattle.cursor.specs.declared.answer.NextAnswer.the-variants as next
+use Rattle.cursor.specs.declared.answers.Moved.{Moved}
+use Rattle.cursor.specs.declared.answers.NextAnswer.{NextAnswer}
+use Rattle.cursor.specs.declared.answers.NextAnswer.the-variants as next
 use Rattle.cursor.specs.declared.place.Cursor.{Cursor}
 use Rattle.cursor.proofs.AgainLaws.{next-again, key-kept, value-kept}
 use Rattle.cursor.proofs.NoCursorLaws.{new-refused-empty, none-handed}
@@ -50,14 +49,10 @@ outcome-refused : (a : Outcome) → (outcomeTold a .number ≡ 0 → ⊥) → (w
 outcome-refused outcome.Done e = absurd (e refl)
 outcome-refused (outcome.Refused w) e = (w, refl)
 
-next-refused : (a : NextAnswer) → (nextNumber a ≡ 0 → ⊥) → (w : Refusal) × (a ≡ next.Refused w)
+next-refused : (a : NextAnswer) → (nextTold a .number ≡ 0 → ⊥) → (w : Refusal) × (a ≡ next.Refused w)
 next-refused next.End e = absurd (e refl)
 next-refused (next.Entry k v) e = absurd (e refl)
 next-refused (next.Refused w) e = (w, refl)
-
-new-refused : (a : NewAnswer) → (newNumber a ≡ 0 → ⊥) → (w : Refusal) × (a ≡ new.Refused w)
-new-refused new.Ready e = absurd (e refl)
-new-refused (new.Refused w) e = (w, refl)
 
 -- ---- a call that leaves all is the same call when it is made again
 
@@ -139,7 +134,7 @@ module _ (flash : List ℕ) (slots : Slots) (r : PageReader) where
 
   page-left : (buffer : List ℕ) → Kept asksItsPage buffer
   unfolding readerLeft
-  page-left buffer = (pageTold (pageId r) .number, λ other q. refl)
+  page-left buffer = (pageOfTold (pageId r) .number, λ other q. refl)
 
   pub kept : (call : ReaderCall) (buffer : List ℕ) → IsRefused (readerLeft flash slots call r buffer) → Kept call buffer
   kept (readsHeader magic page) buffer e = header-kept magic page buffer e
@@ -173,7 +168,7 @@ module _ (bytes ends : List ℕ) (bound : Bound) (upper : List ℕ) where
   unfolding nextLeft
   next-left c t b w e =
       let a : nextOf bytes ends bound upper c (length (b .key)) (length (b .value)) .answer ≡ next.Refused w = ap (λ (m : Moved). m .answer) e in
-      ap₂ (λ (m : Moved) (x : Buffers). record { number = nextNumber (m .answer); state = m .cursor; lent = x }) e
+      ap₂ (λ (m : Moved) (x : Buffers). record { number = nextTold (m .answer) .number; state = m .cursor; lent = x }) e
       (ap₂ (λ (k v : List ℕ). record { key = k; value = v }) (key-kept bytes ends bound upper c (b .key) (b .value) w a) (value-kept bytes ends bound upper c (b .key) (b .value) w a))
 
   -- ASKED AGAIN, of a cursor: what passes that ended stepped over, and runs found gone, stay so; the refusal is the same
@@ -191,10 +186,10 @@ module _ (bytes ends : List ℕ) (bound : Bound) (upper : List ℕ) where
       ∙ next-again bytes ends bound upper (length (b .key)) (length (b .value)) (w .0) c (w .1) ∙ is))
 
 -- a refused new hands back a cursor from which next hands over no byte, whatever runs it is given
-pub no-cursor : (bytes ends : List ℕ) (bound : Bound) (lower : List ℕ) → (newNumber (newOf bytes ends bound lower .answer) ≡ 0 → ⊥)
+pub no-cursor : (bytes ends : List ℕ) (bound : Bound) (lower : List ℕ) → (outcomeTold (newOf bytes ends bound lower .answer) .number ≡ 0 → ⊥)
     → (bytes′ ends′ : List ℕ) (bound′ : Bound) (upper : List ℕ) (b : Buffers) → nextLeft bytes′ ends′ bound′ upper (newOf bytes ends bound lower .cursor) b .lent ≡ b
 unfolding nextLeft
 no-cursor bytes ends bound lower e bytes′ ends′ bound′ upper b =
-    let w = new-refused (newOf bytes ends bound lower .answer) e in
+    let w = outcome-refused (newOf bytes ends bound lower .answer) e in
     let k = none-handed bytes′ ends′ bound′ upper (b .key) (b .value) in
     rw (new-refused-empty bytes ends bound lower (w .0) (w .1)) (ap₂ (λ (x y : List ℕ). record { key = x; value = y }) (k .0) (k .1))

@@ -29,7 +29,7 @@ use Rattle.writer.specs.Outcomes.{ended, endedFlash}
 use Rattle.writer.specs.Verdicts.{writerVerdict, openVerdict}
 use Rattle.writer.specs.Writes.{takes, takenOf, grown, isFull, writeOps, written}
 use Rattle.writer.specs.declared.answers.Opening.the-variants.{Open}
-use Rattle.writer.specs.declared.answers.Outcome.the-variants.{Done, Refused}
+use Rattle.types.specs.declared.answers.Outcome.the-variants.{Done, Refused}
 use Rattle.writer.specs.declared.page_writer.PageWriter.{PageWriter}
 use Rattle.writer.proofs.RangeLaws.{write-range}
 use Rattle.claims.specs.Additions.{fills, goOn, afterWrites, additionOps}

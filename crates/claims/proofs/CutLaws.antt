@@ -24,7 +24,7 @@ use Rattle.writer.specs.Openings.{appended, appendedAt, resumeAt}
 use Rattle.writer.specs.States.{firstChunk, fresh, inRange}
 use Rattle.writer.specs.Verdicts.{openVerdict}
 use Rattle.writer.specs.declared.answers.Opened.{Opened}
-use Rattle.writer.specs.declared.answers.Opening.the-variants.{Open}
+use Rattle.types.specs.declared.answers.Outcome.the-variants.{Done}
 use Rattle.writer.specs.declared.page_writer.PageWriter.{PageWriter}
 use Rattle.writer.proofs.RangeLaws.{append-range}
 use Rattle.claims.specs.Additions.{added, opened, afterWrites, additionOps, addition}
@@ -49,7 +49,7 @@ module _ (e : ℕ) (xs : List ℕ) (page : PageID) (h : ℕ) (w : PageWriter) (k
   abbrev writer : PageWriter
   writer = fresh false page h (resumeAt e bytes o)
 
-  pub append-as : appended e xs page h w k ≡ record { answer = Open; writer = writer; left = k }
+  pub append-as : appended e xs page h w k ≡ record { answer = Done; writer = writer; left = k }
   unfolding appended openVerdict
   append-as = rw (shape .flash, shape .header, shape .there) (ap (appendedAt e bytes page h w k) ends)
 

@@ -25,8 +25,8 @@ use Rattle.reader.specs.Calls.{openPage, openBytes, filled}
 use Rattle.reader.specs.Checks.{openVerdict}
 use Rattle.reader.specs.Finds.{Found, NotEmpty, found, foundWith, joined, readAll}
 use Rattle.reader.specs.States.{newReader}
-use Rattle.reader.specs.declared.answers.Outcome.{Outcome}
-use Rattle.reader.specs.declared.answers.Outcome.the-variants.{Done, Refused}
+use Rattle.types.specs.declared.answers.Outcome.{Outcome}
+use Rattle.types.specs.declared.answers.Outcome.the-variants.{Done, Refused}
 use Rattle.reader.specs.declared.page_reader.PageReader.{PageReader}
 use Rattle.reader.proofs.BufferLaws.{any-buffers}
 use Rattle.reader.proofs.FoundLaws.{found-whole}

@@ -23,8 +23,8 @@ use Rattle.writer.specs.Verdicts.{writerVerdict}
 use Rattle.writer.specs.Writes.{writeOps, written}
 use Rattle.writer.specs.declared.answers.Opening.{Opening}
 use Rattle.writer.specs.declared.answers.Opening.the-variants as opening
-use Rattle.writer.specs.declared.answers.Outcome.{Outcome}
-use Rattle.writer.specs.declared.answers.Outcome.the-variants as outcome
+use Rattle.types.specs.declared.answers.Outcome.{Outcome}
+use Rattle.types.specs.declared.answers.Outcome.the-variants as outcome
 use Rattle.writer.specs.declared.page_writer.PageWriter.{PageWriter}
 use Rattle.claims.specs.Additions.{fills, goOn, afterWrites, opened, added}
 use Rattle.claims.specs.Histories.{Episode, history}

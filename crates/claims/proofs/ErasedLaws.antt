@@ -22,7 +22,7 @@ use Rattle.writer.specs.Duties.{Duty, handsBack, leaves}
 use Rattle.writer.specs.Openings.{appended}
 use Rattle.writer.specs.Outcomes.{ended, endedFlash, endedOps}
 use Rattle.writer.specs.States.{inRange}
-use Rattle.writer.specs.declared.answers.Opening.the-variants.{Open}
+use Rattle.types.specs.declared.answers.Outcome.the-variants.{Done}
 use Rattle.writer.specs.declared.page_writer.PageWriter.{PageWriter}
 use Rattle.writer.proofs.CheckLaws.{sound}
 use Rattle.writer.proofs.CleanLaws.{Clean, append-clean, write-clean, commit-clean, heading-clean}
@@ -130,7 +130,7 @@ all-land e (call ∷ calls) w left xs r c = call-lands e call calls w left xs r 
 
 -- WRITES ON ERASED: after a reopening, whatever the calls, with any number of stores allowed in all, each store that write or commit
 -- makes lies on bytes of the page that read as erased just before it
-pub writes-on-erased : (e : ℕ) (xs : List ℕ) (page : PageID) (h : ℕ) (w : PageWriter) (k : ℕ) (calls : List AddCall) → appended e xs page h w k .answer ≡ Open
+pub writes-on-erased : (e : ℕ) (xs : List ℕ) (page : PageID) (h : ℕ) (w : PageWriter) (k : ℕ) (calls : List AddCall) → appended e xs page h w k .answer ≡ Done
     → AllLand e (callsMake e calls (appended e xs page h w k .writer) (appended e xs page h w k .left) xs)
 writes-on-erased e xs page h w k calls a =
     let v = appended e xs page h w k .writer in

@@ -28,8 +28,8 @@ use Rattle.reader.specs.declared.answers.Count.{Count}
 use Rattle.reader.specs.declared.answers.Count.the-variants as count
 use Rattle.reader.specs.declared.answers.Dehydration.the-variants as dehydration
 use Rattle.reader.specs.declared.answers.EndTested.{EndTested}
-use Rattle.reader.specs.declared.answers.Outcome.{Outcome}
-use Rattle.reader.specs.declared.answers.Outcome.the-variants as outcome
+use Rattle.types.specs.declared.answers.Outcome.{Outcome}
+use Rattle.types.specs.declared.answers.Outcome.the-variants as outcome
 use Rattle.reader.specs.declared.answers.Passage.{Passage}
 use Rattle.reader.specs.declared.page_reader.PageReader.{PageReader}
 use Rattle.reader.proofs.AgainLaws.{open-reader-kept, rehydrate-kept}

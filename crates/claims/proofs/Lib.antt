@@ -1,5 +1,6 @@
 pub mod AddingLaws
 pub mod AdditionLaws
+pub mod AnswerTableLaws
 pub mod AskedAgain
 pub mod CallLaws
 pub mod ClosingLaws

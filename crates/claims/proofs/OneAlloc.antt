@@ -1,4 +1,6 @@
 -- One outcome for every function of `alloc` that is open to callers: each line cites the function's own promise. Assumes nothing.
+use mathlib.Core.Path.{ap}
+use Prim.Native.Nat.{ℕ}
 use Rattle.alloc.proofs.allocator.Allocator.new.Reads.{Learnt as Allocator-new}
 use Rattle.alloc.proofs.allocator.Allocator.reset.Reads.{Learnt as Allocator-reset}
 use Rattle.alloc.proofs.allocator.Allocator.try_allocate.Reads.{Learnt as Allocator-try-allocate}
@@ -12,10 +14,13 @@ use Rattle.alloc.proofs.allocator.Allocator.margin.Reads.{Learnt as Allocator-m
 use Rattle.alloc.proofs.several.try_allocate_each.Reads.{Learnt as try-allocate-each}
 use Rattle.alloc.proofs.several.free_each.Reads.{Learnt as free-each}
 use Rattle.alloc.proofs.answers.Allocated.number.Reads.{Learnt as Allocated-number}
-use Rattle.alloc.proofs.answers.Outcome.number.Reads.{Learnt as Outcome-number}
 use Rattle.alloc.proofs.answers.Usage.number.Reads.{Learnt as Usage-number}
 use Rattle.alloc.proofs.answers.Count.number.Reads.{Learnt as Count-number}
 use Rattle.alloc.proofs.answers.Margin.number.Reads.{Learnt as Margin-number}
+use Rattle.alloc.proofs.answers.Allocated.page_or.Reads.{Learnt as Allocated-page-or}
+use Rattle.alloc.proofs.answers.Usage.is_used.Reads.{Learnt as Usage-is-used}
+use Rattle.alloc.proofs.answers.Count.pages.Reads.{Learnt as Count-pages}
+use Rattle.alloc.proofs.answers.Margin.pages_or.Reads.{Learnt as Margin-pages-or}
 use Rattle.claims.specs.Outcomes.{OneOutcome, beside}
 use Rattle.claims.proofs.OutcomeLaws.{one, two}
 
@@ -58,9 +63,6 @@ one-free-each k a r r′ e e′ p q = one p q
 pub one-Allocated-number : OneOutcome Allocated-number (λ r e. r)
 one-Allocated-number k a r r′ e e′ p q = one p q
 
-pub one-Outcome-number : OneOutcome Outcome-number (λ r e. r)
-one-Outcome-number k a r r′ e e′ p q = one p q
-
 pub one-Usage-number : OneOutcome Usage-number (λ r e. r)
 one-Usage-number k a r r′ e e′ p q = one p q
 
@@ -69,3 +71,15 @@ one-Count-number k a r r′ e e′ p q = one p q
 
 pub one-Margin-number : OneOutcome Margin-number (λ r e. r)
 one-Margin-number k a r r′ e e′ p q = one p q
+
+pub one-Allocated-page-or : OneOutcome Allocated-page-or (λ r e. r)
+one-Allocated-page-or k a r r′ e e′ p q = ap (λ (n : ℕ). record { 0 = n }) (one p q)
+
+pub one-Usage-is-used : OneOutcome Usage-is-used (λ r e. r)
+one-Usage-is-used k a r r′ e e′ p q = one p q
+
+pub one-Count-pages : OneOutcome Count-pages (λ r e. r)
+one-Count-pages k a r r′ e e′ p q = one p q
+
+pub one-Margin-pages-or : OneOutcome Margin-pages-or (λ r e. r)
+one-Margin-pages-or k a r r′ e e′ p q = one p q

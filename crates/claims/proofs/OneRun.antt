@@ -6,6 +6,8 @@ use Rattle.run.proofs.record.Record.value_in.Reads.{Learnt as Record-value-in}
 use Rattle.run.proofs.record.head_at.Reads.{Learnt as head-at}
 use Rattle.run.proofs.search.Sought.number.Reads.{Learnt as Sought-number}
 use Rattle.run.proofs.search.search.Reads.{Learnt as search}
+use Rattle.run.proofs.record.Head.record_or.Reads.{Learnt as Head-record-or}
+use Rattle.run.proofs.search.Sought.place_or.Reads.{Learnt as Sought-place-or}
 use Rattle.claims.specs.Outcomes.{OneOutcome}
 use Rattle.claims.proofs.OutcomeLaws.{one}
 
@@ -29,3 +31,9 @@ one-Sought-number k a r r′ e e′ p q = one p q
 
 pub one-search : OneOutcome search (λ r e. r)
 one-search k a r r′ e e′ p q = one p q
+
+pub one-Head-record-or : OneOutcome Head-record-or (λ r e. r)
+one-Head-record-or k a r r′ e e′ p q = one p q
+
+pub one-Sought-place-or : OneOutcome Sought-place-or (λ r e. r)
+one-Sought-place-or k a r r′ e e′ p q = one p q

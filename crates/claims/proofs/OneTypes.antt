@@ -16,6 +16,12 @@ use Rattle.types.proofs.page_id.OptionPageID.into_option.Reads.{Learnt as Optio
 use Rattle.types.proofs.page_id.OptionPageID.is_some.Reads.{Learnt as OptionPageID-is-some}
 use Rattle.types.proofs.page_id.OptionPageID.is_none.Reads.{Learnt as OptionPageID-is-none}
 use Rattle.types.proofs.refusal.Refusal.number.Reads.{Learnt as Refusal-number}
+use Rattle.types.proofs.refusal.Verdict.number.Reads.{Learnt as Verdict-number}
+use Rattle.types.proofs.page_id.MaybePageID.number.Reads.{Learnt as MaybePageID-number}
+use Rattle.types.proofs.page_id.MaybePageID.page_or.Reads.{Learnt as MaybePageID-page-or}
+use Rattle.types.proofs.answers.Outcome.number.Reads.{Learnt as Outcome-number}
+use Rattle.types.proofs.answers.PageOf.number.Reads.{Learnt as PageOf-number}
+use Rattle.types.proofs.answers.PageOf.page_or.Reads.{Learnt as PageOf-page-or}
 use Rattle.claims.specs.Outcomes.{OneOutcome}
 use Rattle.claims.proofs.OutcomeLaws.{one}
 
@@ -63,3 +69,21 @@ one-OptionPageID-is-none k a r r′ e e′ p q = one p q
 
 pub one-Refusal-number : OneOutcome Refusal-number (λ r e. r)
 one-Refusal-number k a r r′ e e′ p q = one p q
+
+pub one-Verdict-number : OneOutcome Verdict-number (λ r e. r)
+one-Verdict-number k a r r′ e e′ p q = one p q
+
+pub one-MaybePageID-number : OneOutcome MaybePageID-number (λ r e. r)
+one-MaybePageID-number k a r r′ e e′ p q = one p q
+
+pub one-MaybePageID-page-or : OneOutcome MaybePageID-page-or (λ r e. r)
+one-MaybePageID-page-or k a r r′ e e′ p q = ap (λ (n : ℕ). record { 0 = n }) (one p q)
+
+pub one-Outcome-number : OneOutcome Outcome-number (λ r e. r)
+one-Outcome-number k a r r′ e e′ p q = one p q
+
+pub one-PageOf-number : OneOutcome PageOf-number (λ r e. r)
+one-PageOf-number k a r r′ e e′ p q = one p q
+
+pub one-PageOf-page-or : OneOutcome PageOf-page-or (λ r e. r)
+one-PageOf-page-or k a r r′ e e′ p q = ap (λ (n : ℕ). record { 0 = n }) (one p q)

@@ -19,7 +19,7 @@ use Rattle.writer.specs.Outcomes.{ended, endedFlash, wrote}
 use Rattle.writer.specs.States.{inRange}
 use Rattle.writer.specs.Verdicts.{writerVerdict, headingVerdict}
 use Rattle.writer.specs.Writes.{takes}
-use Rattle.writer.specs.declared.answers.Outcome.the-variants.{Done, Refused}
+use Rattle.types.specs.declared.answers.Outcome.the-variants.{Done, Refused}
 use Rattle.writer.specs.declared.page_writer.PageWriter.{PageWriter}
 use Rattle.claims.specs.Sequences.{AddCall, writes, commits, heads, dutyOf, WriterLeft, called, calledAgain}
 use Rattle.claims.proofs.Elsewhere.{elsewhere}

@@ -22,7 +22,7 @@ use Rattle.writer.specs.Verdicts.{writerVerdict, headingVerdict, openVerdict}
 use Rattle.writer.specs.Writes.{groupOf, bufferOf, payloadOps, takingOps, written}
 use Rattle.writer.specs.declared.answers.Opened.{Opened}
 use Rattle.writer.specs.declared.answers.Opening.the-variants.{Open}
-use Rattle.writer.specs.declared.answers.Outcome.the-variants.{Done, Refused}
+use Rattle.types.specs.declared.answers.Outcome.the-variants.{Done, Refused}
 use Rattle.writer.specs.declared.page_writer.PageWriter.{PageWriter}
 use Rattle.claims.specs.Sequences.{AddCall, commits, heads, WriterLeft, called, calledAgain, Making, callsMake, callsLeave, allOps, AllLand}
 use Rattle.claims.specs.Worked.{workedMagic, workedPage, headedFlash, twoChunks}

@@ -11,10 +11,8 @@ use Rattle.writer.specs.Commits.{commitOps}
 use Rattle.writer.specs.Duties.{writeDuty, commitDuty, handsBack, leaves}
 use Rattle.writer.specs.Openings.{appended}
 use Rattle.writer.specs.Writes.{takenOf, grown, isFull, writeOps, written}
-use Rattle.writer.specs.declared.answers.Opening.{Opening}
-use Rattle.writer.specs.declared.answers.Opening.the-variants as opening
-use Rattle.writer.specs.declared.answers.Outcome.{Outcome}
-use Rattle.writer.specs.declared.answers.Outcome.the-variants.{Done, Refused}
+use Rattle.types.specs.declared.answers.Outcome.{Outcome}
+use Rattle.types.specs.declared.answers.Outcome.the-variants.{Done, Refused}
 use Rattle.writer.specs.declared.page_writer.PageWriter.{PageWriter}
 
 -- ---- the calls
@@ -37,9 +35,9 @@ afterWrites e (bytes ∷ pieces) w left xs =
     let ys = leaves d w left xs in
     goOn (ended .answer) (cond (fills w bytes) ys (afterWrites e pieces (ended .writer) (ended .left) ys)) ys
 
-abbrev pub opened : Opening → List ℕ → List ℕ → List ℕ
-opened opening.Open further stopped = further
-opened (opening.Refused why) further stopped = stopped
+abbrev pub opened : Outcome → List ℕ → List ℕ → List ℕ
+opened Done further stopped = further
+opened (Refused why) further stopped = stopped
 
 -- the flash after all of it, where k stores may be made
 unfoldable pub added : ℕ → List ℕ → PageID → ℕ → PageWriter → ℕ → List (List ℕ) → List ℕ

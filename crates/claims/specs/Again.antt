@@ -6,11 +6,12 @@ use Prim.Native.Nat.{ℕ}
 use lib.ListN.{length}
 use Rattle.types.specs.declared.page_id.PageID.{PageID}
 use Rattle.run.specs.declared.bound.Bound.{Bound}
-use Rattle.reader.specs.Answers.{outcomeTold, countTold, endTestTold, dehydrationTold, pageTold}
+use Rattle.types.specs.Answers.{outcomeTold, pageOfTold}
+use Rattle.reader.specs.Answers.{countTold, endTestTold, dehydrationTold}
 use Rattle.reader.specs.Calls.{readHeader, readHeaderBytes, openPage, openBytes, read, readBytes, skip, isAtEof, dehydrate, rehydrateFrom, pageId}
 use Rattle.reader.specs.declared.dehydrated.DehydratedPageReader.{DehydratedPageReader}
 use Rattle.reader.specs.declared.page_reader.PageReader.{PageReader}
-use Rattle.cursor.specs.Answers.{nextNumber}
+use Rattle.cursor.specs.Answers.{nextTold}
 use Rattle.cursor.specs.Next.{nextOf, nextKey, nextValue}
 use Rattle.cursor.specs.declared.place.Cursor.{Cursor}
 
@@ -87,7 +88,7 @@ readerLeft flash slots (rehydrates slot) r buffer = record {
   state = rehydrateFrom r flash (slots slot) .reader;
   lent = buffer;
 }
-readerLeft flash slots asksItsPage r buffer = record { number = pageTold (pageId r) .number; state = r; lent = buffer }
+readerLeft flash slots asksItsPage r buffer = record { number = pageOfTold (pageId r) .number; state = r; lent = buffer }
 
 -- ---- next, with the runs, their ends and the upper bound
 
@@ -104,7 +105,7 @@ roomsOf b = record { key = length (b .key); value = length (b .value) }
 
 unfoldable pub nextLeft : List ℕ → List ℕ → Bound → List ℕ → Cursor → Buffers → Left Cursor Buffers
 nextLeft bytes ends bound upper c b = record {
-  number = nextNumber (nextOf bytes ends bound upper c (length (b .key)) (length (b .value)) .answer);
+  number = nextTold (nextOf bytes ends bound upper c (length (b .key)) (length (b .value)) .answer) .number;
   state = nextOf bytes ends bound upper c (length (b .key)) (length (b .value)) .cursor;
   lent = record { key = nextKey bytes ends bound upper c (b .key) (b .value); value = nextValue bytes ends bound upper c (b .key) (b .value) };
 }

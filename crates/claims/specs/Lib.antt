@@ -1,5 +1,6 @@
 pub mod Additions
 pub mod Again
+pub mod AnswerTable
 pub mod Pages
 pub mod Histories
 pub mod ReaderHistories

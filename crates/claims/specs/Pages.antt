@@ -14,7 +14,7 @@ use Rattle.page.specs.Walks.{Chunk, walkFrom}
 use Rattle.page.specs.declared.walk.Ending.the-variants.{EndAt}
 use Rattle.reader.specs.Calls.{openPage, openBytes}
 use Rattle.reader.specs.Finds.{Found, Joined, payloadOf, NotEmpty, sumRight}
-use Rattle.reader.specs.declared.answers.Outcome.the-variants.{Done}
+use Rattle.types.specs.declared.answers.Outcome.the-variants.{Done}
 use Rattle.reader.specs.declared.page_reader.PageReader.{PageReader}
 
 -- a chunk that is not empty and whose sum is right

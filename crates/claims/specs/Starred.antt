@@ -1,12 +1,12 @@
 -- The reference cases (docs/RULES.md, Reference cases), all of them, as one table of cases in its order. Each case stands in
 -- the crate whose calls it is about, and comes to what the definitions give that those calls promise. Assumes nothing.
 use mathlib.Core.List.{List, [], _∷_}
+use Rattle.types.specs.Answers.{Told}
 use Rattle.page.specs.WalkTable as walks
 use Rattle.page.specs.declared.chunk.Step.{Step}
 use Rattle.run.specs.Items.{Item}
 use Rattle.run.specs.RecordTable as records
 use Rattle.cursor.specs.Starred as merges
-use Rattle.alloc.specs.Answers as alloc
 use Rattle.alloc.specs.Rows as allocations
 use Rattle.writer.specs.Starred as additions
 
@@ -21,7 +21,7 @@ pub data Case : Type 0 where
 pub data Outcome : Type 0 where
   added : additions.Result → Outcome
   walked : Step → Outcome
-  allocated : List alloc.Told → Outcome
+  allocated : List Told → Outcome
   merged : List merges.Outcome → Outcome
   says : List Item → Outcome
 

@@ -2,7 +2,7 @@
 -- page. And calls of a writer. Assumes nothing.
 use mathlib.Core.List.{List, [], _∷_, _++_}
 use Prim.Native.Nat.{ℕ, _-_}
-use Rattle.types.specs.Build.{eraseValue, pageSize}
+use Rattle.types.specs.Build.{eraseValue, pageSize, pageHeaderSize}
 use Rattle.types.specs.declared.page_id.PageID.{PageID}
 use Rattle.crc.specs.Published.{published}
 use Rattle.slices.specs.Patch.{blank}
@@ -24,7 +24,7 @@ unfoldable pub workedFlash : List ℕ
 workedFlash = pageHeader workedMagic 0 [] ++ (chunkOfOne 5 ++ blank eraseValue (pageSize - 24))
 
 unfoldable pub headedFlash : List ℕ
-headedFlash = pageHeader workedMagic 0 [] ++ blank eraseValue (pageSize - 12)
+headedFlash = pageHeader workedMagic 0 [] ++ blank eraseValue (pageSize - pageHeaderSize)
 
 -- a page with a higher header of four bytes and no chunk
 unfoldable pub higherFlash : List ℕ

@@ -16,9 +16,9 @@ use Rattle.cursor.specs.Pass.{lookAt, lowestKey, shows, withGone, withHo
 use Rattle.cursor.specs.Places.{gone, placeOf}
 use Rattle.cursor.specs.Runs.{runOf}
 use Rattle.cursor.specs.Settle.{isHidden, left, settleFrom, settled}
-use Rattle.cursor.specs.declared.answer.Moved.{Moved}
-use Rattle.cursor.specs.declared.answer.NextAnswer.{NextAnswer}
-use Rattle.cursor.specs.declared.answer.NextAnswer.the-variants.{Refused}
+use Rattle.cursor.specs.declared.answers.Moved.{Moved}
+use Rattle.cursor.specs.declared.answers.NextAnswer.{NextAnswer}
+use Rattle.cursor.specs.declared.answers.NextAnswer.the-variants.{Refused}
 use Rattle.types.specs.declared.refusal.Verdict.{Verdict}
 use Rattle.types.specs.declared.refusal.Verdict.the-variants as check
 use Rattle.cursor.specs.declared.look.Look.{Look}

@@ -20,11 +20,11 @@ use Rattle.cursor.specs.Pass.{lowestKey, lowestValue}
 use Rattle.cursor.specs.Places.{atPlace, allGone}
 use Rattle.cursor.specs.Runs.{runOf}
 use Rattle.cursor.specs.Settle.{settled}
-use Rattle.cursor.specs.declared.answer.Moved.{Moved}
-use Rattle.cursor.specs.declared.answer.NewAnswer.the-variants.{Ready}
-use Rattle.cursor.specs.declared.answer.NewCursor.{NewCursor}
-use Rattle.cursor.specs.declared.answer.NextAnswer.{NextAnswer}
-use Rattle.cursor.specs.declared.answer.NextAnswer.the-variants.{Refused}
+use Rattle.cursor.specs.declared.answers.Moved.{Moved}
+use Rattle.types.specs.declared.answers.Outcome.the-variants.{Done}
+use Rattle.cursor.specs.declared.answers.NewCursor.{NewCursor}
+use Rattle.cursor.specs.declared.answers.NextAnswer.{NextAnswer}
+use Rattle.cursor.specs.declared.answers.NextAnswer.the-variants.{Refused}
 use Rattle.types.specs.declared.refusal.Verdict.{Verdict}
 use Rattle.types.specs.declared.refusal.Verdict.the-variants as check
 use Rattle.cursor.specs.declared.pass.Pass.{Pass}
@@ -85,7 +85,7 @@ module _ (bytes ends : List ℕ) (bound : Bound) (lower : List ℕ) where
 
   module _ (i : ℕ) (places : List RunPlace) (answer : NewCursor)
       (rest : newFrom bytes ends bound lower (length ends - i) i places ≡ answer) where
-    pub all-placed : length ends ≤ i → _≡_ {A = NewCursor} (record { cursor = record { places = places }; answer = Ready }) answer
+    pub all-placed : length ends ≤ i → _≡_ {A = NewCursor} (record { cursor = record { places = places }; answer = Done }) answer
     unfolding newFrom
     all-placed h = let z : length ends - i ≡ 0 = omega arith in rw z at rest
 

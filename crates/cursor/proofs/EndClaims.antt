@@ -13,7 +13,7 @@ use Rattle.cursor.specs.Next.{fitted, answerBy, placesBy, movedBy, nextB
 use Rattle.cursor.specs.Pass.{passOf}
 use Rattle.cursor.specs.Places.{placeOf}
 use Rattle.cursor.specs.Settle.{isHidden, left, settleFrom, settled}
-use Rattle.cursor.specs.declared.answer.NextAnswer.the-variants.{End, Entry, Refused}
+use Rattle.cursor.specs.declared.answers.NextAnswer.the-variants.{End, Entry, Refused}
 use Rattle.types.specs.declared.refusal.Verdict.{Verdict}
 use Rattle.types.specs.declared.refusal.Verdict.the-variants as check
 use Rattle.cursor.specs.declared.look.Lowest.{Lowest}

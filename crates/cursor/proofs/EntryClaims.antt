@@ -23,8 +23,8 @@ use Rattle.cursor.specs.Next.{fitted, answerBy, answerTo, placesBy, putB
 use Rattle.cursor.specs.Pass.{lowestKey, lowestValue, passOf}
 use Rattle.cursor.specs.Runs.{runOf}
 use Rattle.cursor.specs.Settle.{isHidden, left, settleFrom, settled}
-use Rattle.cursor.specs.declared.answer.NextAnswer.{NextAnswer}
-use Rattle.cursor.specs.declared.answer.NextAnswer.the-variants.{End, Entry, Refused}
+use Rattle.cursor.specs.declared.answers.NextAnswer.{NextAnswer}
+use Rattle.cursor.specs.declared.answers.NextAnswer.the-variants.{End, Entry, Refused}
 use Rattle.cursor.specs.declared.look.Lowest.{Lowest}
 use Rattle.cursor.specs.declared.look.Lowest.the-variants as low
 use Rattle.cursor.specs.declared.pass.Pass.{Pass}

@@ -16,8 +16,8 @@ use Rattle.cursor.specs.Merged.{Pair, Hands, end, entry}
 use Rattle.cursor.specs.Next.{answerBy, answerTo, placesBy, putBy, movedBy, nextBy, nextOf, nextKey, nextValue}
 use Rattle.cursor.specs.Pass.{lowestKey, lowestValue}
 use Rattle.cursor.specs.Settle.{settled}
-use Rattle.cursor.specs.declared.answer.Moved.{Moved}
-use Rattle.cursor.specs.declared.answer.NextAnswer.the-variants.{End, Entry}
+use Rattle.cursor.specs.declared.answers.Moved.{Moved}
+use Rattle.cursor.specs.declared.answers.NextAnswer.the-variants.{End, Entry}
 use Rattle.cursor.specs.declared.look.Lowest.{Lowest}
 use Rattle.cursor.specs.declared.look.Lowest.the-variants.{None, Found, Refused}
 use Rattle.cursor.specs.declared.pass.Pass.{Pass}

@@ -15,7 +15,7 @@ use Rattle.cursor.specs.Merged.{said, between, Pair, Hands, Merged}
 use Rattle.cursor.specs.New.{newOf}
 use Rattle.cursor.specs.Runs.{runOf}
 use Rattle.cursor.specs.Union.{union, lives}
-use Rattle.cursor.specs.declared.answer.NewAnswer.the-variants.{Ready}
+use Rattle.types.specs.declared.answers.Outcome.the-variants.{Done}
 use Rattle.cursor.proofs.CheckLaws.{good-few}
 use Rattle.cursor.proofs.HandLaws.{hands}
 use Rattle.cursor.proofs.LiveLaws.{rising-lives, lives-sound, lives-complete}
@@ -51,7 +51,7 @@ module _ (bytes ends : List ℕ) (good : goodRuns (length bytes) ends ≡ true) 
     (low : Bound) (lower : List ℕ) (high : Bound) (upper : List ℕ)
     (key value : List ℕ) (keyRoom : maxKeySize ≤ length key) (valueRoom : maxValueSize ≤ length value) where
   -- a cursor is made, and calls of next come to their end
-  pub merge-hands : (newOf bytes ends low lower .answer ≡ Ready)
+  pub merge-hands : (newOf bytes ends low lower .answer ≡ Done)
       × ((pairs : List Pair) × Hands bytes ends high upper (newOf bytes ends low lower .cursor) key value pairs
       × Merged (length ends) items (between low lower high upper) pairs)
   merge-hands =

@@ -15,12 +15,12 @@ use Rattle.run.specs.declared.record.Record.{Record}
 use Rattle.cursor.specs.Next.{fitted, answerBy, answerTo, placesBy, putBy}
 use Rattle.cursor.specs.Pass.{lowestKey, lowestValue}
 use Rattle.cursor.specs.Runs.{runOf}
-use Rattle.cursor.specs.declared.answer.NextAnswer.{NextAnswer}
-use Rattle.cursor.specs.declared.answer.NextAnswer.the-variants.{End, Entry, Refused}
+use Rattle.cursor.specs.declared.answers.NextAnswer.{NextAnswer}
+use Rattle.cursor.specs.declared.answers.NextAnswer.the-variants.{End, Entry, Refused}
 use Rattle.cursor.specs.declared.look.Lowest.{Lowest}
 use Rattle.cursor.specs.declared.look.Lowest.the-variants as low
 use Rattle.cursor.specs.declared.pass.Pass.{Pass}
-use Rattle.cursor.proofs.answer.NextAnswer as NextAnswer'
+use Rattle.cursor.proofs.answers.NextAnswer as NextAnswer'
 
 -- ---- the rooms
 

@@ -19,8 +19,8 @@ use Rattle.cursor.specs.Pass.{passOf}
 use Rattle.cursor.specs.Places.{gone, placeOf, allGone}
 use Rattle.cursor.specs.Runs.{runOf}
 use Rattle.cursor.specs.Settle.{isHidden, left, settled}
-use Rattle.cursor.specs.declared.answer.NewAnswer.the-variants as new
-use Rattle.cursor.specs.declared.answer.NewCursor.{NewCursor}
+use Rattle.types.specs.declared.answers.Outcome.the-variants as outcome
+use Rattle.cursor.specs.declared.answers.NewCursor.{NewCursor}
 use Rattle.types.specs.declared.refusal.Verdict.{Verdict}
 use Rattle.types.specs.declared.refusal.Verdict.the-variants as check
 use Rattle.cursor.specs.declared.look.Look.the-variants as look
@@ -39,7 +39,7 @@ use Rattle.cursor.proofs.PlaceLaws.{at-gone, set-other, set-gone}
 
 module _ (bytes ends : List ℕ) (bound : Bound) (lower : List ℕ) (why : Refusal) where
   abbrev Empty : NewCursor → Type 0
-  Empty n = n .answer ≡ new.Refused why → n .cursor ≡ record { places = allGone }
+  Empty n = n .answer ≡ outcome.Refused why → n .cursor ≡ record { places = allGone }
 
   empty-by : (s : Sought) (i : ℕ) (places : List RunPlace) (later : List RunPlace → NewCursor) → ((q : List RunPlace) → Empty (later q)) → Empty (placed s i places later)
   unfolding placed
@@ -59,7 +59,7 @@ module _ (bytes ends : List ℕ) (bound : Bound) (lower : List ℕ) (why : Refus
   empty-check check.Fine e = empty-from (length ends) 0 allGone e
   empty-check (check.Refused x) e = refl
 
-  pub new-refused-empty : newOf bytes ends bound lower .answer ≡ new.Refused why → newOf bytes ends bound lower .cursor ≡ record { places = allGone }
+  pub new-refused-empty : newOf bytes ends bound lower .answer ≡ outcome.Refused why → newOf bytes ends bound lower .cursor ≡ record { places = allGone }
   unfolding newOf
   new-refused-empty e = empty-check (newCheck (length bytes) ends) e
 

@@ -13,7 +13,7 @@ use Rattle.keys.specs.declared.order.Ordering.the-variants.{Less, Equal}
 use Rattle.keys.proofs.OrderLaws.{compare-itself, less-less}
 use Rattle.cursor.specs.Merged.{Pair, Hands, end, entry, Among, BelowPairs, RisingPairs, Merged}
 use Rattle.cursor.specs.Next.{nextKey, nextValue}
-use Rattle.cursor.specs.declared.answer.NextAnswer.the-variants.{Entry}
+use Rattle.cursor.specs.declared.answers.NextAnswer.the-variants.{Entry}
 use Rattle.cursor.specs.declared.place.Cursor.{Cursor}
 use Rattle.cursor.proofs.LiveLaws.{among-below}
 

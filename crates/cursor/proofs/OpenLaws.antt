@@ -20,8 +20,8 @@ use Rattle.cursor.specs.New.{placed, newFrom, newBy, newOf}
 use Rattle.cursor.specs.Places.{gone, atPlace, placeOf, allGone}
 use Rattle.cursor.specs.Runs.{startOf, endOf, runOf}
 use Rattle.cursor.specs.Union.{kept}
-use Rattle.cursor.specs.declared.answer.NewAnswer.the-variants.{Ready}
-use Rattle.cursor.specs.declared.answer.NewCursor.{NewCursor}
+use Rattle.types.specs.declared.answers.Outcome.the-variants.{Done}
+use Rattle.cursor.specs.declared.answers.NewCursor.{NewCursor}
 use Rattle.cursor.specs.declared.place.Place.the-variants.{At, Gone}
 use Rattle.cursor.specs.declared.place.RunPlace.{RunPlace}
 use Rattle.cursor.proofs.BoundLaws.{within, reaches, asked-between}
@@ -91,7 +91,7 @@ module _ (low : Bound) (lower : List ℕ) (high : Bound) (upper : List ℕ) wher
       good : Good ends places
 
     abbrev Made : NewCursor → Type 0
-    Made n = (n .answer ≡ Ready) × Opened (length ends) (n .cursor .places)
+    Made n = (n .answer ≡ Done) × Opened (length ends) (n .cursor .places)
 
     module _ (i : ℕ) (places : List RunPlace) (b : i < length ends) (h : Opened i places) where
       none-left : kept (reaches low lower) (items i) ≡ [] → taken (items i) ≡ []
@@ -146,6 +146,6 @@ module _ (low : Bound) (lower : List ℕ) (high : Bound) (upper : List ℕ) wher
     made g = rw g (opened-from (length ends) 0 (omega arith) allGone unopened)
 
     pub opened : goodRuns (length bytes) ends ≡ true
-        → (newOf bytes ends low lower .answer ≡ Ready) × Good ends (newOf bytes ends low lower .cursor .places)
+        → (newOf bytes ends low lower .answer ≡ Done) × Good ends (newOf bytes ends low lower .cursor .places)
         × Left bytes ends high upper (λ i. taken (items i)) (newOf bytes ends low lower .cursor .places)
     opened g = let m = made g in (m .0, m .1 .good, m .1 .done)

@@ -10,8 +10,8 @@ use Rattle.cursor.specs.Answers.{nextNumber}
 use Rattle.cursor.specs.New.{newOf}
 use Rattle.cursor.specs.Next.{nextOf, nextKey}
 use Rattle.cursor.specs.Starred.{liveB, liveC, Case, call}
-use Rattle.cursor.specs.declared.answer.NextAnswer.{NextAnswer}
-use Rattle.cursor.specs.declared.answer.NextAnswer.the-variants.{End, Entry, Refused}
+use Rattle.cursor.specs.declared.answers.NextAnswer.{NextAnswer}
+use Rattle.cursor.specs.declared.answers.NextAnswer.the-variants.{End, Entry, Refused}
 use Rattle.cursor.specs.declared.place.Cursor.{Cursor}
 use Rattle.cursor.specs.declared.place.Place.the-variants.{At}
 

@@ -12,7 +12,7 @@ use Rattle.run.specs.declared.bound.Bound.{Bound}
 use Rattle.run.specs.declared.bound.Bound.the-variants.{Unbounded, Included, Excluded}
 use Rattle.keys.specs.declared.order.Ordering.the-variants.{Less}
 use Rattle.cursor.specs.Next.{nextOf, nextKey, nextValue}
-use Rattle.cursor.specs.declared.answer.NextAnswer.the-variants.{End, Entry}
+use Rattle.cursor.specs.declared.answers.NextAnswer.the-variants.{End, Entry}
 use Rattle.cursor.specs.declared.place.Cursor.{Cursor}
 
 -- ---- the runs together

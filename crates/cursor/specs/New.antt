@@ -11,8 +11,8 @@ use Rattle.run.specs.declared.search.Sought.the-variants as sought
 use Rattle.cursor.specs.Checks.{newCheck}
 use Rattle.cursor.specs.Places.{atPlace, allGone}
 use Rattle.cursor.specs.Runs.{runOf}
-use Rattle.cursor.specs.declared.answer.NewAnswer.the-variants.{Ready, Refused}
-use Rattle.cursor.specs.declared.answer.NewCursor.{NewCursor}
+use Rattle.types.specs.declared.answers.Outcome.the-variants.{Done, Refused}
+use Rattle.cursor.specs.declared.answers.NewCursor.{NewCursor}
 use Rattle.types.specs.declared.refusal.Verdict.{Verdict}
 use Rattle.types.specs.declared.refusal.Verdict.the-variants as check
 use Rattle.cursor.specs.declared.place.RunPlace.{RunPlace}
@@ -28,7 +28,7 @@ placed (sought.Refused why) i places later = refusedNew why
 
 -- `count` runs from run i on, in list order
 unfoldable pub newFrom : List ℕ → List ℕ → Bound → List ℕ → ℕ → ℕ → List RunPlace → NewCursor
-newFrom bytes ends bound lower zero i places = record { cursor = record { places = places }; answer = Ready }
+newFrom bytes ends bound lower zero i places = record { cursor = record { places = places }; answer = Done }
 newFrom bytes ends bound lower (suc count) i places =
     placed (soughtIn (runOf bytes ends i) bound lower) i places (λ p. newFrom bytes ends bound lower count (suc i) p)
 

@@ -11,9 +11,9 @@ use Rattle.run.specs.declared.bound.Bound.{Bound}
 use Rattle.cursor.specs.Checks.{nextCheck}
 use Rattle.cursor.specs.Pass.{lowestKey, lowestValue}
 use Rattle.cursor.specs.Settle.{settled}
-use Rattle.cursor.specs.declared.answer.Moved.{Moved}
-use Rattle.cursor.specs.declared.answer.NextAnswer.{NextAnswer}
-use Rattle.cursor.specs.declared.answer.NextAnswer.the-variants.{End, Entry, Refused}
+use Rattle.cursor.specs.declared.answers.Moved.{Moved}
+use Rattle.cursor.specs.declared.answers.NextAnswer.{NextAnswer}
+use Rattle.cursor.specs.declared.answers.NextAnswer.the-variants.{End, Entry, Refused}
 use Rattle.types.specs.declared.refusal.Verdict.{Verdict}
 use Rattle.types.specs.declared.refusal.Verdict.the-variants as check
 use Rattle.cursor.specs.declared.look.Lowest.{Lowest}

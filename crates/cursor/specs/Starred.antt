@@ -5,11 +5,12 @@ use Prim.Native.Nat.{ℕ, _+_}
 use lib.ListN.{length, take, replicate}
 use Rattle.run.specs.RecordTable.{liveA, deletedA}
 use Rattle.run.specs.declared.bound.Bound.the-variants.{Unbounded}
-use Rattle.cursor.specs.Answers.{nextNumber, nextValues}
+use Rattle.types.specs.Answers.{Told, answered}
+use Rattle.cursor.specs.Answers.{nextTold}
 use Rattle.cursor.specs.New.{newOf}
 use Rattle.cursor.specs.Next.{nextOf, nextKey, nextValue}
-use Rattle.cursor.specs.declared.answer.NextAnswer.{NextAnswer}
-use Rattle.cursor.specs.declared.answer.NextAnswer.the-variants.{End, Entry, Refused}
+use Rattle.cursor.specs.declared.answers.NextAnswer.{NextAnswer}
+use Rattle.cursor.specs.declared.answers.NextAnswer.the-variants.{End, Entry, Refused}
 use Rattle.cursor.specs.declared.place.Cursor.{Cursor}
 use Rattle.cursor.specs.declared.place.Place.{Place}
 use Rattle.cursor.specs.declared.place.Place.the-variants.{At, Gone}
@@ -34,10 +35,9 @@ endsFrom from (run ∷ runs) = (from + length run) ∷ endsFrom (from + length r
 
 -- ---- the calls
 
--- the table's number, the values answered, the bytes put into the buffers, and the runs' places afterwards
+-- what is answered, the bytes put into the buffers, and the runs' places afterwards
 pub record Outcome : Type 0 where
-  pub number : ℕ
-  pub values : List ℕ
+  pub told : Told
   pub key : List ℕ
   pub value : List ℕ
   pub places : List Place
@@ -69,8 +69,7 @@ placesIn (p ∷ places) = p .place ∷ placesIn places
 -- one call with fresh buffers, and with no upper bound
 unfoldable pub outcomeOf : List ℕ → List ℕ → Cursor → ℕ → ℕ → Outcome
 outcomeOf bytes ends c keyRoom valueRoom = record {
-  number = nextNumber (nextOf bytes ends Unbounded [] c keyRoom valueRoom .answer);
-  values = nextValues (nextOf bytes ends Unbounded [] c keyRoom valueRoom .answer);
+  told = nextTold (nextOf bytes ends Unbounded [] c keyRoom valueRoom .answer);
   key = shownKey (nextOf bytes ends Unbounded [] c keyRoom valueRoom .answer)
       (nextKey bytes ends Unbounded [] c (replicate keyRoom 0) (replicate valueRoom 0));
   value = shownValue (nextOf bytes ends Unbounded [] c keyRoom valueRoom .answer)
@@ -99,11 +98,11 @@ expected x = given (x .calls)
 
 -- ---- the table
 
-unfoldable pub call : ℕ → ℕ → ℕ → List ℕ → List ℕ → List ℕ → List Place → Call
-call keyRoom valueRoom number values key value places = record {
+unfoldable pub call : ℕ → ℕ → Told → List ℕ → List ℕ → List Place → Call
+call keyRoom valueRoom told key value places = record {
   keyRoom = keyRoom;
   valueRoom = valueRoom;
-  gives = record { number = number; values = values; key = key; value = value; places = places };
+  gives = record { told = told; key = key; value = value; places = places };
 }
 
 -- {a=1, c=3}, {a deleted, b=2}: b, c, End
@@ -111,9 +110,9 @@ unfoldable pub roomForAll : Case
 roomForAll =
     record {
       runs = bothRuns;
-      calls = call 64 1024 0 (1 ∷ 1 ∷ []) (0x62 ∷ []) (0x32 ∷ []) (At 8 ∷ At 15 ∷ [])
-          ∷ call 64 1024 0 (1 ∷ 1 ∷ []) (0x63 ∷ []) (0x33 ∷ []) (At 16 ∷ Gone ∷ [])
-          ∷ call 64 1024 0 [] [] [] (Gone ∷ Gone ∷ [])
+      calls = call 64 1024 (answered (1 ∷ 1 ∷ [])) (0x62 ∷ []) (0x32 ∷ []) (At 8 ∷ At 15 ∷ [])
+          ∷ call 64 1024 (answered (1 ∷ 1 ∷ [])) (0x63 ∷ []) (0x33 ∷ []) (At 16 ∷ Gone ∷ [])
+          ∷ call 64 1024 (answered []) [] [] (Gone ∷ Gone ∷ [])
           ∷ [];
     }
 
@@ -122,7 +121,7 @@ unfoldable pub noRoomFirst : Case
 noRoomFirst =
     record {
       runs = bothRuns;
-      calls = call 0 1024 2 [] [] [] (At 8 ∷ At 7 ∷ []) ∷ call 64 1024 0 (1 ∷ 1 ∷ []) (0x62 ∷ []) (0x32 ∷ []) (At 8 ∷ At 15 ∷ []) ∷ [];
+      calls = call 0 1024 (record { number = 2; values = [] }) [] [] (At 8 ∷ At 7 ∷ []) ∷ call 64 1024 (answered (1 ∷ 1 ∷ [])) (0x62 ∷ []) (0x32 ∷ []) (At 8 ∷ At 15 ∷ []) ∷ [];
     }
 
 unfoldable pub starred : List Case

@@ -4,7 +4,7 @@ ghost use lib.ListN.{length};
 ghost use Rattle.run.specs.Records.{keyIn, valueIn};
 ghost use Rattle.cursor.specs.Next.{fitted, answerTo, putBy};
 ghost use Rattle.cursor.specs.Pass.{lowestKey, lowestValue};
-use crate::answer::NextAnswer;
+use crate::answers::NextAnswer;
 use crate::look::Lowest;
 use crate::runs::run_of;
 use run::record::Record;

@@ -1,5 +1,5 @@
 // The merge over all runs: a cursor from a lower bound, and the next entry under an upper bound.
-pub mod answer;
+pub mod answers;
 pub mod check;
 pub mod deliver;
 pub mod look;

@@ -3,10 +3,9 @@ ghost use mathlib.Core.Path.{_≡_};
 ghost use lib.ListN.{length};
 ghost use Rattle.cursor.specs.New.{refusedNew, newOf};
 ghost use Rattle.cursor.specs.Next.{placesBy, nextOf, nextKey, nextValue};
-use crate::answer::Moved;
-use crate::answer::NewAnswer;
-use crate::answer::NewCursor;
-use crate::answer::NextAnswer;
+use crate::answers::Moved;
+use crate::answers::NewCursor;
+use crate::answers::NextAnswer;
 use crate::check::new_check;
 use crate::check::next_check;
 use crate::deliver::deliver;
@@ -20,6 +19,7 @@ use crate::runs::run_of;
 use run::bound::Bound;
 use run::search::Sought;
 use run::search::search;
+use types::answers::Outcome;
 use types::config::FILE_COUNT;
 use types::refusal::Refusal;
 use types::refusal::Verdict;
@@ -31,7 +31,7 @@ fn refused(why: Refusal) -> NewCursor
     let places = [GONE; FILE_COUNT];
     NewCursor {
         cursor: Cursor { places },
-        answer: NewAnswer::Refused(why),
+        answer: Outcome::Refused(why),
     }
 }
 
@@ -78,7 +78,7 @@ impl Cursor {
         }
         NewCursor {
             cursor: Cursor { places },
-            answer: NewAnswer::Ready,
+            answer: Outcome::Done,
         }
     }
 

@@ -7,8 +7,8 @@ use Rattle.alloc.proofs.answers.Count as C
 use Rattle.alloc.proofs.answers.Count.Laws as C′
 use Rattle.alloc.proofs.answers.Margin as M
 use Rattle.alloc.proofs.answers.Margin.Laws as M′
-use Rattle.alloc.proofs.answers.Outcome as O
-use Rattle.alloc.proofs.answers.Outcome.Laws as O′
+use Rattle.types.proofs.answers.Outcome as O
+use Rattle.types.proofs.answers.Outcome.Laws as O′
 use Rattle.alloc.proofs.answers.Usage as U
 use Rattle.alloc.proofs.answers.Usage.Laws as U′
 use Rattle.lent.proofs.Handed.{Plain, structured, enumerated}

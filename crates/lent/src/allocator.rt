@@ -5,8 +5,8 @@ use alloc::allocator::Allocator;
 use alloc::answers::Allocated;
 use alloc::answers::Count;
 use alloc::answers::Margin;
-use alloc::answers::Outcome;
 use alloc::answers::Usage;
+use types::answers::Outcome;
 use types::page_id::PageID;
 
 pub fn reset(lent: &mut Allocator, count: usize, seed: u32) -> Outcome

@@ -9,8 +9,7 @@ use crate::places::is_bad;
 use crate::places::last_end;
 use crate::places::run_of;
 use crate::places::stops_search;
-use cursor::answer::NewAnswer;
-use cursor::answer::NextAnswer;
+use cursor::answers::NextAnswer;
 use cursor::place::Cursor;
 use cursor::place::Place;
 use desk::say;
@@ -18,6 +17,7 @@ use libc::STDOUT_FILENO;
 use run::bound::Bound;
 use script::space::entry_space;
 use slices::part::part_of;
+use types::answers::Outcome;
 use types::config::FILE_COUNT;
 use types::config::MAX_KEY_SIZE;
 use types::config::MAX_VALUE_SIZE;
@@ -160,8 +160,8 @@ fn list_between(c: Choice, runs: &[u8], ends: &[usize], lower: &[u8], upper: &[u
     let answer = made.answer;
     let start = made.cursor;
     match answer {
-        NewAnswer::Ready => list_from(c, runs, ends, upper, start),
-        NewAnswer::Refused(why) => say_start_refused(c, runs, ends, lower, why),
+        Outcome::Done => list_from(c, runs, ends, upper, start),
+        Outcome::Refused(why) => say_start_refused(c, runs, ends, lower, why),
     }
 }
 

@@ -9,7 +9,10 @@ use types::config::ALIGN;
 use types::config::CHUNK_HEADER_SIZE;
 use types::config::MAX_CHUNK_SIZE;
 use types::config::PAGE_SIZE;
+use types::refusal::Refusal;
 ghost use mathlib.Core.Path.{_≡_};
+ghost use Rattle.types.specs.Answers.{sizeOr};
+ghost use Rattle.page.specs.Answers.{stepTold};
 ghost use Rattle.page.specs.Chunks.{alignUp, chunkHeader, chunkAt, payloadAt, checkedAt};
 
 pub const CHUNK_MAGIC: u16 = 0x59C5;
@@ -24,6 +27,68 @@ pub enum Step {
     Chunk { len: usize, crc: u32, next: usize },
 }
 
+impl Step {
+    // The number of the row that refuses, 0 where none does.
+    pub fn number(self) -> u8
+        ensures answers { λ r. ⌜ r ≡ stepTold self .number ⌝ }
+    {
+        match self {
+            Step::End => 0,
+            Step::Corrupted => Refusal::Corrupted.number(),
+            Step::Chunk {
+                len: _,
+                crc: _,
+                next: _,
+            } => 0,
+        }
+    }
+
+    // A chunk's length, or another number where there is no chunk.
+    pub fn len_or(self, other: usize) -> usize
+        ensures answers { λ r. ⌜ r ≡ sizeOr other 0 (stepTold self) ⌝ }
+    {
+        match self {
+            Step::End => other,
+            Step::Corrupted => other,
+            Step::Chunk {
+                len,
+                crc: _,
+                next: _,
+            } => len,
+        }
+    }
+
+    // A chunk's sum, or another number where there is no chunk.
+    pub fn crc_or(self, other: u32) -> u32
+        ensures answers { λ r. ⌜ r ≡ sizeOr other 1 (stepTold self) ⌝ }
+    {
+        match self {
+            Step::End => other,
+            Step::Corrupted => other,
+            Step::Chunk {
+                len: _,
+                crc,
+                next: _,
+            } => crc,
+        }
+    }
+
+    // Where the chunk after this one starts, or another offset where there is no chunk.
+    pub fn next_or(self, other: usize) -> usize
+        ensures answers { λ r. ⌜ r ≡ sizeOr other 2 (stepTold self) ⌝ }
+    {
+        match self {
+            Step::End => other,
+            Step::Corrupted => other,
+            Step::Chunk {
+                len: _,
+                crc: _,
+                next,
+            } => next,
+        }
+    }
+}
+
 // A number of bytes rounded up to whole groups.
 pub fn align_up(n: u32) -> usize
     ensures answers { λ r. ⌜ r ≡ alignUp n ⌝ }
@@ -32,7 +97,7 @@ pub fn align_up(n: u32) -> usize
 }
 
 // The header of a chunk of this length and sum.
-pub fn chunk_header(len: u16, crc: u32) -> [u8; 8]
+pub fn chunk_header(len: u16, crc: u32) -> [u8; CHUNK_HEADER_SIZE]
     ensures answers { λ r. ⌜ r ≡ chunkHeader len crc ⌝ }
 {
     let m = put16(CHUNK_MAGIC);

@@ -19,7 +19,7 @@ use Rattle.reader.specs.Moves.{ready, skipped}
 use Rattle.reader.specs.States.{restored}
 use Rattle.reader.specs.declared.answers.Count.the-variants as count
 use Rattle.reader.specs.declared.answers.EndTest.the-variants as endTest
-use Rattle.reader.specs.declared.answers.Outcome.the-variants as outcome
+use Rattle.types.specs.declared.answers.Outcome.the-variants as outcome
 use Rattle.reader.specs.declared.answers.Passage.{Passage}
 use Rattle.reader.specs.declared.dehydrated.DehydratedPageReader.{DehydratedPageReader}
 use Rattle.reader.specs.declared.moves.Arrived.{Arrived}

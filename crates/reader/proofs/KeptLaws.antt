@@ -15,7 +15,7 @@ use Rattle.page.specs.Chunks.{payloadAt}
 use Rattle.reader.specs.Calls.{rehydrateFrom}
 use Rattle.reader.specs.Checks.{readerVerdict}
 use Rattle.reader.specs.States.{stored}
-use Rattle.reader.specs.declared.answers.Outcome.the-variants as outcome
+use Rattle.types.specs.declared.answers.Outcome.the-variants as outcome
 use Rattle.reader.specs.declared.page_reader.PageReader.{PageReader}
 use Rattle.reader.proofs.OpenLaws.{rehydrate-ended, rehydrate-right}
 use Rattle.reader.proofs.StandingLaws.{Stands}

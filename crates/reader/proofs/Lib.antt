@@ -1,4 +1,5 @@
 pub mod AgainLaws
+pub mod AnswerLaws
 pub mod BufferLaws
 pub mod CheckLaws
 pub mod FoundLaws

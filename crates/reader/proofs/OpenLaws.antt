@@ -22,8 +22,8 @@ use Rattle.reader.specs.Checks.{openVerdict, readerVerdict}
 use Rattle.reader.specs.Moves.{arriving}
 use Rattle.reader.specs.States.{unread, restored}
 use Rattle.reader.specs.declared.answers.Opening.{Opening}
-use Rattle.reader.specs.declared.answers.Outcome.{Outcome}
-use Rattle.reader.specs.declared.answers.Outcome.the-variants as outcome
+use Rattle.types.specs.declared.answers.Outcome.{Outcome}
+use Rattle.types.specs.declared.answers.Outcome.the-variants as outcome
 use Rattle.reader.specs.declared.moves.Arrived.the-variants.{At, Corrupted}
 use Rattle.reader.specs.declared.dehydrated.DehydratedPageReader.{DehydratedPageReader}
 use Rattle.reader.specs.declared.page_reader.PageReader.{PageReader}

@@ -20,7 +20,7 @@ use Rattle.reader.specs.Calls.{passageAfter, read, taken, skip, passageO
 use Rattle.reader.specs.Checks.{inRange, openVerdict, readerVerdict}
 use Rattle.reader.specs.Moves.{arriving, moved, ready, restOf, past, onward, skipBy, skipped}
 use Rattle.reader.specs.States.{newReader, unread, restored}
-use Rattle.reader.specs.declared.answers.Outcome.the-variants as outcome
+use Rattle.types.specs.declared.answers.Outcome.the-variants as outcome
 use Rattle.reader.specs.declared.answers.Passage.{Passage}
 use Rattle.reader.specs.declared.dehydrated.DehydratedPageReader.{DehydratedPageReader}
 use Rattle.reader.specs.declared.moves.Arrived.{Arrived}

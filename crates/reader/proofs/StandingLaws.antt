@@ -29,7 +29,7 @@ use Rattle.reader.specs.Moves.{arriving, moved, ready, restOf, past, onw
 use Rattle.reader.specs.States.{unread, restored}
 use Rattle.reader.specs.declared.answers.Count.{Count}
 use Rattle.reader.specs.declared.answers.Count.the-variants as count
-use Rattle.reader.specs.declared.answers.Outcome.the-variants as outcome
+use Rattle.types.specs.declared.answers.Outcome.the-variants as outcome
 use Rattle.reader.specs.declared.dehydrated.DehydratedPageReader.{DehydratedPageReader}
 use Rattle.reader.specs.declared.moves.Arrived.{Arrived}
 use Rattle.reader.specs.declared.moves.Arrived.the-variants.{At, Corrupted}

@@ -3,23 +3,17 @@
 use mathlib.Core.Bool.{cond}
 use mathlib.Core.List.{List, [], _∷_}
 use Prim.Native.Nat.{ℕ}
-use Rattle.types.specs.Answers.{Told, answered, refusal}
+use lib.Dec.{eqb}
+use Rattle.types.specs.Answers.{Told, answered, refusal, sizeOr}
 use Rattle.reader.specs.declared.answers.Count.{Count}
 use Rattle.reader.specs.declared.answers.Count.the-variants as count
 use Rattle.reader.specs.declared.answers.Dehydration.{Dehydration}
 use Rattle.reader.specs.declared.answers.Dehydration.the-variants as dehydration
 use Rattle.reader.specs.declared.answers.EndTest.{EndTest}
 use Rattle.reader.specs.declared.answers.EndTest.the-variants as endTest
-use Rattle.reader.specs.declared.answers.Outcome.{Outcome}
-use Rattle.reader.specs.declared.answers.Outcome.the-variants as outcome
-use Rattle.reader.specs.declared.answers.Page.{Page}
-use Rattle.reader.specs.declared.answers.Page.the-variants as number
 use Rattle.reader.specs.declared.dehydrated.DehydratedPageReader.{DehydratedPageReader}
 
-abbrev pub outcomeTold : Outcome → Told
-outcomeTold outcome.Done = answered []
-outcomeTold (outcome.Refused why) = refusal why
-
+-- how many bytes were read or passed
 abbrev pub countTold : Count → Told
 countTold (count.Bytes n) = answered (n ∷ [])
 countTold (count.Refused why) = refusal why
@@ -38,6 +32,13 @@ abbrev pub dehydrationTold : Dehydration → Told
 dehydrationTold (dehydration.State d) = answered (fieldsOf d)
 dehydrationTold (dehydration.Refused why) = refusal why
 
-abbrev pub pageTold : Page → Told
-pageTold (number.Number page) = answered (page .0 ∷ [])
-pageTold (number.Refused why) = refusal why
+-- the state that these values tell, or another where there are none
+abbrev pub stateOr : DehydratedPageReader → Told → DehydratedPageReader
+stateOr other told = record {
+  page = record { 0 = sizeOr (other .page .0) 0 told };
+  ended = eqb (sizeOr (cond (other .ended) 1 0) 1 told) 1;
+  offset = sizeOr (other .offset) 2 told;
+  len = sizeOr (other .len) 3 told;
+  crc = sizeOr (other .crc) 4 told;
+  position = sizeOr (other .position) 5 told;
+}

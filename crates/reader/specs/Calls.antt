@@ -24,10 +24,10 @@ use Rattle.reader.specs.declared.answers.Dehydration.the-variants as deh
 use Rattle.reader.specs.declared.answers.EndTest.the-variants as endTest
 use Rattle.reader.specs.declared.answers.EndTested.{EndTested}
 use Rattle.reader.specs.declared.answers.Opening.{Opening}
-use Rattle.reader.specs.declared.answers.Outcome.{Outcome}
-use Rattle.reader.specs.declared.answers.Outcome.the-variants as outcome
-use Rattle.reader.specs.declared.answers.Page.{Page}
-use Rattle.reader.specs.declared.answers.Page.the-variants as number
+use Rattle.types.specs.declared.answers.Outcome.{Outcome}
+use Rattle.types.specs.declared.answers.Outcome.the-variants as outcome
+use Rattle.types.specs.declared.answers.PageOf.{PageOf}
+use Rattle.types.specs.declared.answers.PageOf.the-variants as of
 use Rattle.reader.specs.declared.answers.Passage.{Passage}
 use Rattle.reader.specs.declared.moves.Arrived.{Arrived}
 use Rattle.reader.specs.declared.moves.Arrived.the-variants.{At, Corrupted}
@@ -153,9 +153,9 @@ rehydrateFrom r flash d =
 
 -- ---- page_id
 
-abbrev pub pageAfter : Verdict → PageID → Page
-pageAfter Fine page = number.Number page
-pageAfter (Refused why) page = number.Refused why
+abbrev pub pageAfter : Verdict → PageID → PageOf
+pageAfter Fine page = of.Page page
+pageAfter (Refused why) page = of.Refused why
 
-unfoldable pub pageId : PageReader → Page
+unfoldable pub pageId : PageReader → PageOf
 pageId r = pageAfter (stateVerdict r) (r .page)

@@ -18,8 +18,8 @@ use Rattle.reader.specs.Calls.{openPage, read, readBytes}
 use Rattle.reader.specs.States.{newReader}
 use Rattle.reader.specs.declared.answers.Count.{Count}
 use Rattle.reader.specs.declared.answers.Count.the-variants as count
-use Rattle.reader.specs.declared.answers.Outcome.{Outcome}
-use Rattle.reader.specs.declared.answers.Outcome.the-variants as outcome
+use Rattle.types.specs.declared.answers.Outcome.{Outcome}
+use Rattle.types.specs.declared.answers.Outcome.the-variants as outcome
 use Rattle.reader.specs.declared.page_reader.PageReader.{PageReader}
 
 -- what was handed out, call by call, and how it ended: with nothing more, or refused

@@ -1,29 +1,15 @@
-// What the calls answer. Each answer has a case for its refusals, and the number of the row that refuses, 0 where none
-// does. A call that moves the reader hands it back beside its answer, and a refused one hands it back as it was.
+// What the calls answer. Each answer type hands out the number of the row that refuses, 0 where none does, and its values,
+// where it has any. A call that moves the reader hands it back beside its answer, and a refused one hands it back as it was.
 ghost use mathlib.Core.Path.{_≡_};
-ghost use Rattle.reader.specs.Answers.{outcomeTold, countTold, endTestTold, dehydrationTold, pageTold};
+ghost use lib.Dec.{eqb};
+ghost use Rattle.types.specs.Answers.{sizeOr};
+ghost use Rattle.reader.specs.Answers.{countTold, endTestTold, dehydrationTold, stateOr};
 use crate::dehydrated::DehydratedPageReader;
 use crate::page_reader::PageReader;
-use types::page_id::PageID;
+use types::answers::Outcome;
 use types::refusal::Refusal;
 
-// The answer of open, read_header and rehydrate_from.
-pub enum Outcome {
-    Done,
-    Refused(Refusal),
-}
-
-impl Outcome {
-    pub fn number(self) -> u8
-        ensures answers { λ r. ⌜ r ≡ outcomeTold self .number ⌝ }
-    {
-        match self {
-            Outcome::Done => 0,
-            Outcome::Refused(no) => no.number(),
-        }
-    }
-}
-
+// The answer of open and rehydrate_from.
 pub struct Opening {
     pub answer: Outcome,
     pub reader: PageReader,
@@ -41,7 +27,17 @@ impl Count {
     {
         match self {
             Count::Bytes(_) => 0,
-            Count::Refused(no) => no.number(),
+            Count::Refused(why) => why.number(),
+        }
+    }
+
+    // How many bytes, 0 where the call was refused.
+    pub fn bytes(self) -> usize
+        ensures answers { λ r. ⌜ r ≡ sizeOr 0 0 (countTold self) ⌝ }
+    {
+        match self {
+            Count::Bytes(n) => n,
+            Count::Refused(_) => 0,
         }
     }
 }
@@ -65,7 +61,18 @@ impl EndTest {
         match self {
             EndTest::AtEnd => 0,
             EndTest::More => 0,
-            EndTest::Refused(no) => no.number(),
+            EndTest::Refused(why) => why.number(),
+        }
+    }
+
+    // Whether the reader is known to be at its end: not so where the call was refused.
+    pub fn at_end(self) -> bool
+        ensures answers { λ r. ⌜ r ≡ eqb (sizeOr 0 0 (endTestTold self)) 1 ⌝ }
+    {
+        match self {
+            EndTest::AtEnd => true,
+            EndTest::More => false,
+            EndTest::Refused(_) => false,
         }
     }
 }
@@ -87,24 +94,17 @@ impl Dehydration {
     {
         match self {
             Dehydration::State(_) => 0,
-            Dehydration::Refused(no) => no.number(),
+            Dehydration::Refused(why) => why.number(),
         }
     }
-}
 
-// The answer of page_id.
-pub enum Page {
-    Number(PageID),
-    Refused(Refusal),
-}
-
-impl Page {
-    pub fn number(self) -> u8
-        ensures answers { λ r. ⌜ r ≡ pageTold self .number ⌝ }
+    // The state, or another one where the call was refused.
+    pub fn state_or(self, other: DehydratedPageReader) -> DehydratedPageReader
+        ensures answers { λ r. ⌜ r ≡ stateOr other (dehydrationTold self) ⌝ }
     {
         match self {
-            Page::Number(_) => 0,
-            Page::Refused(no) => no.number(),
+            Dehydration::State(state) => state,
+            Dehydration::Refused(_) => other,
         }
     }
 }

@@ -57,11 +57,11 @@ fn check_page(bytes: usize, page: PageID) -> Verdict
 pub(crate) fn check_open(bytes: usize, h: usize, page: PageID) -> Verdict
     ensures answers { λ v. ⌜ v ≡ openVerdict bytes h page ⌝ }
 {
-    if let Verdict::Refused(no) = check_flash(bytes) {
-        return Verdict::Refused(no);
+    if let Verdict::Refused(why) = check_flash(bytes) {
+        return Verdict::Refused(why);
     }
-    if let Verdict::Refused(no) = check_header(h) {
-        return Verdict::Refused(no);
+    if let Verdict::Refused(why) = check_header(h) {
+        return Verdict::Refused(why);
     }
     check_page(bytes, page)
 }
@@ -69,11 +69,11 @@ pub(crate) fn check_open(bytes: usize, h: usize, page: PageID) -> Verdict
 pub(crate) fn check_reader(bytes: usize, r: PageReader) -> Verdict
     ensures answers { λ v. ⌜ v ≡ readerVerdict bytes r ⌝ }
 {
-    if let Verdict::Refused(no) = check_flash(bytes) {
-        return Verdict::Refused(no);
+    if let Verdict::Refused(why) = check_flash(bytes) {
+        return Verdict::Refused(why);
     }
-    if let Verdict::Refused(no) = check_state(r) {
-        return Verdict::Refused(no);
+    if let Verdict::Refused(why) = check_state(r) {
+        return Verdict::Refused(why);
     }
     let page = r.page;
     check_page(bytes, page)

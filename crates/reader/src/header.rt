@@ -1,10 +1,10 @@
 // Reading a page's higher header alone (page.rs, read_header).
-use crate::answers::Outcome;
 use crate::check::check_open;
 use flash::geometry::page_of;
 use page::header::header_of;
 use page::header::page_header_fine;
 use slices::part;
+use types::answers::Outcome;
 use types::page_id::PageID;
 use types::refusal::Refusal;
 use types::refusal::Verdict;
@@ -18,8 +18,8 @@ pub fn read_header(flash: &[u8], magic: u32, page: PageID, header: &mut [u8]) ->
     ensures bytes { λ _. ⌜ now (header .exit) ≡ readHeaderBytes (now (flash .entry)) magic page (now (header .entry)) ⌝ }
 {
     let h = header.len();
-    if let Verdict::Refused(no) = check_open(flash.len(), h, page) {
-        return Outcome::Refused(no);
+    if let Verdict::Refused(why) = check_open(flash.len(), h, page) {
+        return Outcome::Refused(why);
     }
     let bytes = page_of(flash, page);
     if !page_header_fine(bytes, magic, page, h) {

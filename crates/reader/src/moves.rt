@@ -8,6 +8,7 @@ use slices::part::part_of;
 use types::config::CHUNK_HEADER_SIZE;
 ghost use mathlib.Core.Path.{_≡_};
 ghost use Prim.Native.Nat.{_+_, _^_, _<_};
+ghost use Rattle.types.specs.Build.{chunkHeaderSize};
 ghost use Rattle.page.specs.Chunks.{checkedAt};
 ghost use Rattle.reader.specs.Moves.{Whole, arriving, moved, ready, restOf, past, skipped};
 
@@ -50,7 +51,7 @@ pub(crate) fn arrive(r: PageReader, page: &[u8], at: usize) -> Arrived
 
 // Moves the reader to the chunk after its own.
 fn next_chunk(r: PageReader, page: &[u8]) -> Arrived
-    requires { ⌜ r .offset + 8 + r .len < 2 ^ 32 ⌝ }
+    requires { ⌜ r .offset + chunkHeaderSize + r .len < 2 ^ 32 ⌝ }
     ensures answers { λ a. ⌜ a ≡ moved (now (page .entry)) r ⌝ }
 {
     arrive(

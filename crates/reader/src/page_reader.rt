@@ -5,8 +5,6 @@ use crate::answers::Dehydration;
 use crate::answers::EndTest;
 use crate::answers::EndTested;
 use crate::answers::Opening;
-use crate::answers::Outcome;
-use crate::answers::Page;
 use crate::answers::Passage;
 use crate::check::check_open;
 use crate::check::check_reader;
@@ -27,6 +25,8 @@ use page::chunk::payload_at;
 use page::header::header_of;
 use page::header::page_header_fine;
 use slices::part;
+use types::answers::Outcome;
+use types::answers::PageOf;
 use types::config::PAGE_HEADER_SIZE;
 use types::num::least;
 use types::page_id::PageID;
@@ -75,9 +75,9 @@ impl PageReader {
         ensures bytes { λ _. ⌜ now (header .exit) ≡ openBytes self (now (flash .entry)) magic page (now (header .entry)) ⌝ }
     {
         let h = header.len();
-        if let Verdict::Refused(no) = check_open(flash.len(), h, page) {
+        if let Verdict::Refused(why) = check_open(flash.len(), h, page) {
             return Opening {
-                answer: Outcome::Refused(no),
+                answer: Outcome::Refused(why),
                 reader: self,
             };
         }
@@ -106,9 +106,9 @@ impl PageReader {
         ensures answers { λ r. ⌜ r ≡ read self (now (flash .entry)) (length (now (buffer .entry))) ⌝ }
         ensures bytes { λ _. ⌜ now (buffer .exit) ≡ readBytes self (now (flash .entry)) (now (buffer .entry)) ⌝ }
     {
-        if let Verdict::Refused(no) = check_reader(flash.len(), self) {
+        if let Verdict::Refused(why) = check_reader(flash.len(), self) {
             return Passage {
-                answer: Count::Refused(no),
+                answer: Count::Refused(why),
                 reader: self,
             };
         }
@@ -133,9 +133,9 @@ impl PageReader {
     pub fn skip(self, flash: &[u8], count: usize) -> Passage
         ensures answers { λ r. ⌜ r ≡ skip self (now (flash .entry)) count ⌝ }
     {
-        if let Verdict::Refused(no) = check_reader(flash.len(), self) {
+        if let Verdict::Refused(why) = check_reader(flash.len(), self) {
             return Passage {
-                answer: Count::Refused(no),
+                answer: Count::Refused(why),
                 reader: self,
             };
         }
@@ -156,9 +156,9 @@ impl PageReader {
     pub fn is_at_eof(self, flash: &[u8]) -> EndTested
         ensures answers { λ r. ⌜ r ≡ isAtEof self (now (flash .entry)) ⌝ }
     {
-        if let Verdict::Refused(no) = check_reader(flash.len(), self) {
+        if let Verdict::Refused(why) = check_reader(flash.len(), self) {
             return EndTested {
-                answer: EndTest::Refused(no),
+                answer: EndTest::Refused(why),
                 reader: self,
             };
         }
@@ -185,8 +185,8 @@ impl PageReader {
     pub fn dehydrate(self) -> Dehydration
         ensures answers { λ r. ⌜ r ≡ dehydrate self ⌝ }
     {
-        if let Verdict::Refused(no) = check_state(self) {
-            return Dehydration::Refused(no);
+        if let Verdict::Refused(why) = check_state(self) {
+            return Dehydration::Refused(why);
         }
         Dehydration::State(stored_of(self))
     }
@@ -196,9 +196,9 @@ impl PageReader {
         ensures answers { λ r. ⌜ r ≡ rehydrateFrom self (now (flash .entry)) dehydrated ⌝ }
     {
         let r = restored_of(dehydrated);
-        if let Verdict::Refused(no) = check_reader(flash.len(), r) {
+        if let Verdict::Refused(why) = check_reader(flash.len(), r) {
             return Opening {
-                answer: Outcome::Refused(no),
+                answer: Outcome::Refused(why),
                 reader: self,
             };
         }
@@ -222,13 +222,13 @@ impl PageReader {
         }
     }
 
-    pub fn page_id(self) -> Page
+    pub fn page_id(self) -> PageOf
         ensures answers { λ r. ⌜ r ≡ pageId self ⌝ }
     {
-        if let Verdict::Refused(no) = check_state(self) {
-            return Page::Refused(no);
+        if let Verdict::Refused(why) = check_state(self) {
+            return PageOf::Refused(why);
         }
         let page = self.page;
-        Page::Number(page)
+        PageOf::Page(page)
     }
 }

@@ -6,7 +6,6 @@ use alloc::answers::Allocated;
 use alloc::answers::Change;
 use alloc::answers::Count;
 use alloc::answers::Margin;
-use alloc::answers::Outcome;
 use alloc::answers::Usage;
 use alloc::several;
 use check::same;
@@ -24,6 +23,7 @@ use script::args::page_at;
 use script::args::seed_at;
 use script::words::word_at;
 use script::words::word_count;
+use types::answers::Outcome;
 use types::config::MAX_PAGE_COUNT;
 use types::num::least;
 

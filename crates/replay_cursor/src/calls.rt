@@ -6,8 +6,7 @@ use crate::state::called;
 use crate::state::no_call;
 use crate::state::with_cursor;
 use check::same;
-use cursor::answer::NewAnswer;
-use cursor::answer::NextAnswer;
+use cursor::answers::NextAnswer;
 use cursor::place::Cursor;
 use cursor::place::Place;
 use cursor::place::RunPlace;
@@ -24,6 +23,7 @@ use script::space::line_space;
 use script::words::word_at;
 use script::words::word_count;
 use slices::part::part_of;
+use types::answers::Outcome;
 use types::config::FILE_COUNT;
 use types::num::least;
 
@@ -156,8 +156,8 @@ fn new(w: State, line: &[u8], runs: &[u8], ends: &[usize]) -> Reply {
     let made = Cursor::new(runs, ends, bound, part_of(&key, 0, n));
     let answer = made.answer;
     match answer {
-        NewAnswer::Ready => say(Word::Ok),
-        NewAnswer::Refused(why) => say(Word::No(why)),
+        Outcome::Done => say(Word::Ok),
+        Outcome::Refused(why) => say(Word::No(why)),
     }
     end_line();
     let cursor = made.cursor;

@@ -11,11 +11,9 @@ use crate::state::with_reader;
 use check::same;
 use digits::number::Number;
 use digits::number::Word32;
-use reader::answers;
 use reader::answers::Count;
 use reader::answers::EndTest;
 use reader::answers::Opening;
-use reader::answers::Outcome;
 use reader::answers::Passage;
 use reader::dehydrated::DehydratedPageReader;
 use reader::header;
@@ -32,6 +30,8 @@ use script::space::line_space;
 use script::words::word_at;
 use script::words::word_count;
 use slices::part::part_of;
+use types::answers::Outcome;
+use types::answers::PageOf;
 use types::config::MAX_HEADER_SIZE;
 use types::num::least;
 use types::page_id::PageID;
@@ -208,11 +208,11 @@ fn is_at_eof(w: State, flash: &[u8]) -> Reply {
 fn page_id(w: State) -> Reply {
     let r = w.reader;
     match r.page_id() {
-        answers::Page::Number(page) => {
+        PageOf::Page(page) => {
             say(Word::Ok);
             say(Word::Number(page.index()));
         }
-        answers::Page::Refused(why) => say(Word::No(why)),
+        PageOf::Refused(why) => say(Word::No(why)),
     }
     end_line();
     called(w)

@@ -11,7 +11,6 @@ use check::same;
 use digits::number::Number;
 use digits::number::Word32;
 use reader::answers::Dehydration;
-use reader::answers::Outcome;
 use reader::dehydrated::DehydratedPageReader;
 use replay_say::end_line;
 use replay_say::say;
@@ -25,6 +24,7 @@ use script::args::page_at;
 use script::args::word32_at;
 use script::words::word_at;
 use script::words::word_count;
+use types::answers::Outcome;
 ghost use Prim.Native.Nat.{_≤_};
 
 pub(crate) enum Fields {

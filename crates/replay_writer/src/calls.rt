@@ -24,15 +24,14 @@ use script::space::line_space;
 use script::words::word_at;
 use script::words::word_count;
 use slices::part::part_of;
+use types::answers::Outcome;
+use types::answers::PageOf;
 use types::config::ALIGN;
 use types::num::least;
 use types::num::less;
 use writer::answers::Ended;
 use writer::answers::Length;
 use writer::answers::Opened;
-use writer::answers::Opening;
-use writer::answers::Outcome;
-use writer::answers::Place;
 use writer::answers::Taking;
 use writer::page_writer::PageWriter;
 
@@ -60,8 +59,8 @@ fn left(w: State, line: &[u8]) -> Reply {
 fn opened(change: Opened) -> Reply {
     let answer = change.answer;
     match answer {
-        Opening::Open => say(Word::Ok),
-        Opening::Refused(why) => say(Word::No(why)),
+        Outcome::Done => say(Word::Ok),
+        Outcome::Refused(why) => say(Word::No(why)),
     }
     say(Word::Number(change.left));
     say(Word::Number(0));
@@ -174,11 +173,11 @@ fn len(w: State) -> Reply {
 fn page_id(w: State) -> Reply {
     let writer = w.writer;
     match writer.page_id() {
-        Place::Page(page) => {
+        PageOf::Page(page) => {
             say(Word::Ok);
             say(Word::Number(page.index()));
         }
-        Place::Refused(why) => say(Word::No(why)),
+        PageOf::Refused(why) => say(Word::No(why)),
     }
     end_line();
     called(w)

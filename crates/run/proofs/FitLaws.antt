@@ -14,8 +14,8 @@ use Rattle.run.specs.Records.{recordHeaderSize, marked, verdictOf, keyLe
 use Rattle.run.specs.declared.record.Record.{Record}
 use Rattle.run.specs.declared.record.Head.{Head}
 use Rattle.run.specs.declared.record.Head.the-variants as head
-use Rattle.run.specs.declared.record.Verdict.{Verdict}
-use Rattle.run.specs.declared.record.Verdict.the-variants as verdict
+use Rattle.run.specs.declared.record.KindVerdict.{KindVerdict}
+use Rattle.run.specs.declared.record.KindVerdict.the-variants as verdict
 
 -- the header has so many bytes
 pub record Lies (size : ℕ) (run : List ℕ) (at : ℕ) (r : Record) : Type 0 where
@@ -59,13 +59,13 @@ module _ (size : ℕ) (run : List ℕ) (at : ℕ) where
   unfolding bodyAt
   body-lies deleted = body-by deleted _ _ _ refl refl refl
 
-by-verdict : (run : List ℕ) (at : ℕ) (v : Verdict) → HeadLies recordHeaderSize run at (headBy v run at)
+by-verdict : (run : List ℕ) (at : ℕ) (v : KindVerdict) → HeadLies recordHeaderSize run at (headBy v run at)
 unfolding headBy
 by-verdict run at verdict.Live = body-lies recordHeaderSize run at false
 by-verdict run at verdict.Deleted = body-lies recordHeaderSize run at true
 by-verdict run at (verdict.Refused why) = tt
 
-head-by : (run : List ℕ) (at : ℕ) (v : Verdict) (end short mark : Bool)
+head-by : (run : List ℕ) (at : ℕ) (v : KindVerdict) (end short mark : Bool)
     → HeadLies recordHeaderSize run at
     (cond end head.Nothing (cond short (head.Refused Corrupted) (cond mark (headBy v run at) (head.Refused Corrupted))))
 head-by run at v true short mark = tt

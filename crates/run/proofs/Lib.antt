@@ -1,3 +1,4 @@
+pub mod AnswerLaws
 pub mod FitLaws
 pub mod RecordLaws
 pub mod RecordTableLaws

@@ -10,8 +10,8 @@ use Rattle.types.specs.Build.{maxKeySize, maxValueSize}
 use Rattle.types.specs.declared.refusal.Refusal.the-variants.{Corrupted, LaterEdition}
 use Rattle.run.specs.Records.{recordHeaderSize, marked, verdictOf, keyLen, valueLen, placed, bodyAt, headBy, headAt}
 use Rattle.run.specs.declared.record.Head.the-variants as head
-use Rattle.run.specs.declared.record.Verdict.{Verdict}
-use Rattle.run.specs.declared.record.Verdict.the-variants as verdict
+use Rattle.run.specs.declared.record.KindVerdict.{KindVerdict}
+use Rattle.run.specs.declared.record.KindVerdict.the-variants as verdict
 
 -- ---- the kind
 
@@ -75,6 +75,6 @@ module _ (run : List ℕ) (at : ℕ) where
       unfolding headAt
       head-unmarked m = rw (ne-eqb at (length run) more, le-ltb (length run) (at + recordHeaderSize) six, m)
 
-      pub head-marked : marked run at ≡ true → (v w : Verdict) → v ≡ verdictOf (getD run (at + 2) 0) → v ≡ w → headBy w run at ≡ headAt run at
+      pub head-marked : marked run at ≡ true → (v w : KindVerdict) → v ≡ verdictOf (getD run (at + 2) 0) → v ≡ w → headBy w run at ≡ headAt run at
       unfolding headAt
       head-marked m v w e q = rw (← q, e, ne-eqb at (length run) more, le-ltb (length run) (at + recordHeaderSize) six, m)

@@ -12,8 +12,8 @@ use Rattle.slices.specs.Parts.{partTo}
 use Rattle.run.specs.declared.record.Record.{Record}
 use Rattle.run.specs.declared.record.Head.{Head}
 use Rattle.run.specs.declared.record.Head.the-variants as head
-use Rattle.run.specs.declared.record.Verdict.{Verdict}
-use Rattle.run.specs.declared.record.Verdict.the-variants as verdict
+use Rattle.run.specs.declared.record.KindVerdict.{KindVerdict}
+use Rattle.run.specs.declared.record.KindVerdict.the-variants as verdict
 
 -- the bytes of a record before its key
 abbrev pub recordHeaderSize : ℕ
@@ -24,7 +24,7 @@ abbrev pub marked : List ℕ → ℕ → Bool
 marked run at = eqb (getD run at 0) 0x48 && eqb (getD run (at + 1) 0) 0x56
 
 -- kind 0 is live, 1 deleted, 2 to 127 a later edition, the rest corrupted
-abbrev pub verdictOf : ℕ → Verdict
+abbrev pub verdictOf : ℕ → KindVerdict
 verdictOf kind =
     cond (eqb kind 0) verdict.Live
     (cond (eqb kind 1) verdict.Deleted (cond (leb kind 127) (verdict.Refused LaterEdition) (verdict.Refused Corrupted)))
@@ -49,7 +49,7 @@ bodyAt size run at deleted =
     (head.Record (placed deleted (at + size) (keyLen run at) (valueLen run at)))))
 
 -- a good kind has a body
-unfoldable pub headBy : Verdict → List ℕ → ℕ → Head
+unfoldable pub headBy : KindVerdict → List ℕ → ℕ → Head
 headBy verdict.Live run at = bodyAt recordHeaderSize run at false
 headBy verdict.Deleted run at = bodyAt recordHeaderSize run at true
 headBy (verdict.Refused why) run at = head.Refused why

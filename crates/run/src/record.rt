@@ -4,7 +4,7 @@ ghost use Prim.Native.Nat.{_+_, _≤_};
 ghost use lib.ListN.{length};
 ghost use mathlib.Core.List.{[], _∷_};
 ghost use Rattle.types.specs.Bytes.{word};
-ghost use Rattle.run.specs.Answers.{headNumber};
+ghost use Rattle.run.specs.Answers.{headTold, recordOr};
 ghost use Rattle.run.specs.Records.{recordHeaderSize, verdictOf, bodyAt, headAt, keyIn, valueIn};
 use slices::part::part_to;
 use types::config::MAX_KEY_SIZE;
@@ -31,12 +31,23 @@ pub enum Head {
 impl Head {
     // The table's number, 0 where nothing is refused.
     pub fn number(self) -> u8
-        ensures answers { λ r. ⌜ r ≡ headNumber self ⌝ }
+        ensures answers { λ r. ⌜ r ≡ headTold self .number ⌝ }
     {
         match self {
             Head::Nothing => 0,
             Head::Record(_) => 0,
             Head::Refused(why) => why.number(),
+        }
+    }
+
+    // The record, or another one where there is none and where the head is refused.
+    pub fn record_or(self, other: Record) -> Record
+        ensures answers { λ r. ⌜ r ≡ recordOr other (headTold self) ⌝ }
+    {
+        match self {
+            Head::Nothing => other,
+            Head::Record(record) => record,
+            Head::Refused(_) => other,
         }
     }
 }
@@ -62,20 +73,20 @@ impl Record {
 }
 
 // What the kind byte says of its record.
-pub enum Verdict {
+pub(crate) enum KindVerdict {
     Live,
     Deleted,
     Refused(Refusal),
 }
 
-fn verdict_of(kind: u8) -> Verdict
+fn verdict_of(kind: u8) -> KindVerdict
     ensures answers { λ r. ⌜ r ≡ verdictOf kind ⌝ }
 {
     match kind {
-        0 => Verdict::Live,
-        1 => Verdict::Deleted,
-        2..=127 => Verdict::Refused(Refusal::LaterEdition),
-        128..=255 => Verdict::Refused(Refusal::Corrupted),
+        0 => KindVerdict::Live,
+        1 => KindVerdict::Deleted,
+        2..=127 => KindVerdict::Refused(Refusal::LaterEdition),
+        128..=255 => KindVerdict::Refused(Refusal::Corrupted),
     }
 }
 
@@ -138,8 +149,8 @@ pub fn head_at(run: &[u8], at: usize) -> Head
         return Head::Refused(Refusal::Corrupted);
     }
     match verdict_of(run[at + 2]) {
-        Verdict::Live => body(run, at, false),
-        Verdict::Deleted => body(run, at, true),
-        Verdict::Refused(why) => Head::Refused(why),
+        KindVerdict::Live => body(run, at, false),
+        KindVerdict::Deleted => body(run, at, true),
+        KindVerdict::Refused(why) => Head::Refused(why),
     }
 }

@@ -1,6 +1,7 @@
 // The search of one run for a lower bound (docs/RULES.md, Runs; cursor.rs, the linear search).
 ghost use mathlib.Core.Path.{_≡_};
-ghost use Rattle.run.specs.Answers.{soughtNumber};
+ghost use Rattle.types.specs.Answers.{sizeOr};
+ghost use Rattle.run.specs.Answers.{soughtTold};
 ghost use Rattle.run.specs.Search.{levelAt, soughtWithout, soughtIn};
 use crate::bound::Bound;
 use crate::record::Head;
@@ -19,12 +20,23 @@ pub enum Sought {
 impl Sought {
     // The table's number, 0 where nothing is refused.
     pub fn number(self) -> u8
-        ensures answers { λ r. ⌜ r ≡ soughtNumber self ⌝ }
+        ensures answers { λ r. ⌜ r ≡ soughtTold self .number ⌝ }
     {
         match self {
             Sought::Gone => 0,
             Sought::At(_) => 0,
             Sought::Refused(why) => why.number(),
+        }
+    }
+
+    // The place, or another one where the run is gone or the search was refused.
+    pub fn place_or(self, other: usize) -> usize
+        ensures answers { λ r. ⌜ r ≡ sizeOr other 0 (soughtTold self) ⌝ }
+    {
+        match self {
+            Sought::Gone => other,
+            Sought::At(at) => at,
+            Sought::Refused(_) => other,
         }
     }
 }

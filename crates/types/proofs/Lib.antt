@@ -1,3 +1,4 @@
+pub mod BuildLaws
 pub mod BytesLaws
 pub mod PageIDLaws
 pub mod TestLaws

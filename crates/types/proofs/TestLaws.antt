@@ -1,6 +1,6 @@
 -- Tests as Bools, and the ways that they go. Assumes nothing.
 use mathlib.Core.Path.{_≡_, refl, sym, _∙_}
-use mathlib.Core.Bool.{Bool, true, false, _&&_}
+use mathlib.Core.Bool.{Bool, true, false, _&&_, cond}
 use mathlib.Core.Logic.{_⊎_, inl, inr, ⊎-elim}
 use Prim.Native.Nat.{ℕ, _≤_, _<_}
 use native.Mathlib.Omega.{arith}
@@ -17,6 +17,11 @@ le-or-lt a b = ⊎-elim (λ e. inl (leb-true a b e)) (λ e. inr (leb-false a b e
 
 pub eq-or-ne : (a b : ℕ) → (a ≡ b) ⊎ (a ≡ b → ⊥)
 eq-or-ne a b = ⊎-elim (λ e. inl (eqb-true a b e)) (λ e. inr (eqb-false a b e)) (decided (eqb a b))
+
+-- a test that is told as 1 or 0 is known again
+pub flag-back : (t : Bool) → eqb (cond t 1 0) 1 ≡ t
+flag-back true = refl
+flag-back false = refl
 
 -- both halves of a conjunction that holds
 pub both-true : (s t : Bool) → (s && t) ≡ true → (s ≡ true) × (t ≡ true)

@@ -23,9 +23,13 @@ maxValueSize = 1024
 abbrev pub branchingFactor : ℕ
 branchingFactor = 2
 
--- two files for each of eight levels, and one
+-- a file of each level has branchingFactor times the pages of one of the level below: so many levels make a full flash
+abbrev pub levelCount : ℕ
+levelCount = 8
+
+-- the files of every level, and one more
 abbrev pub fileCount : ℕ
-fileCount = 2 * 8 + 1
+fileCount = branchingFactor * levelCount + 1
 
 -- a page header without the higher header, and the longest higher header
 abbrev pub pageHeaderSize : ℕ
@@ -38,7 +42,7 @@ abbrev pub chunkHeaderSize : ℕ
 chunkHeaderSize = 8
 
 abbrev pub maxChunkSize : ℕ
-maxChunkSize = 4096 - 12 - 8
+maxChunkSize = pageSize - pageHeaderSize - chunkHeaderSize
 
 abbrev pub theBuild : Build
 theBuild = record {
@@ -49,6 +53,7 @@ theBuild = record {
   «max_key_size» = maxKeySize;
   «max_value_size» = maxValueSize;
   «branching_factor» = branchingFactor;
+  «level_count» = levelCount;
   «file_count» = fileCount;
   «page_header_size» = pageHeaderSize;
   «max_header_size» = maxHeaderSize;

@@ -19,10 +19,14 @@ pub const MAX_KEY_SIZE: usize = 64;
 
 pub const MAX_VALUE_SIZE: usize = 1024;
 
-// Files in a level of the tree, and so the most runs of a merge: two for each of eight levels, and one.
+// Files in a level of the tree, and the levels that a full flash comes to: a file of each level has BRANCHING_FACTOR times the pages
+// of one of the level below.
 pub const BRANCHING_FACTOR: usize = 2;
 
-pub const FILE_COUNT: usize = 2 * 8 + 1;
+pub const LEVEL_COUNT: usize = 8;
+
+// The most runs of a merge: the files of every level, and one more.
+pub const FILE_COUNT: usize = BRANCHING_FACTOR * LEVEL_COUNT + 1;
 
 // Bytes of a page header without the higher header, and the longest higher header.
 pub const PAGE_HEADER_SIZE: usize = 12;
@@ -32,7 +36,7 @@ pub const MAX_HEADER_SIZE: usize = 64;
 // Bytes of a chunk header, and the longest payload: a page less both headers.
 pub const CHUNK_HEADER_SIZE: usize = 8;
 
-pub const MAX_CHUNK_SIZE: usize = 4096 - 12 - 8;
+pub const MAX_CHUNK_SIZE: usize = PAGE_SIZE - PAGE_HEADER_SIZE - CHUNK_HEADER_SIZE;
 
 // All of them at once, for whoever shows or compares them.
 pub struct Build {
@@ -43,6 +47,7 @@ pub struct Build {
     pub max_key_size: usize,
     pub max_value_size: usize,
     pub branching_factor: usize,
+    pub level_count: usize,
     pub file_count: usize,
     pub page_header_size: usize,
     pub max_header_size: usize,
@@ -61,6 +66,7 @@ pub fn the_build() -> Build
         max_key_size: MAX_KEY_SIZE,
         max_value_size: MAX_VALUE_SIZE,
         branching_factor: BRANCHING_FACTOR,
+        level_count: LEVEL_COUNT,
         file_count: FILE_COUNT,
         page_header_size: PAGE_HEADER_SIZE,
         max_header_size: MAX_HEADER_SIZE,

@@ -1,6 +1,7 @@
 // Page numbers (types/mod.rs). Raw 0xFFFF is none.
 ghost use mathlib.Core.Path.{_≡_};
 ghost use mathlib.Core.Bool.{not};
+ghost use Rattle.types.specs.Answers.{sizeOr, maybeTold};
 ghost use Rattle.types.specs.PageIDs.{noPage, pageOfRaw, rawOf, isNone};
 
 const NO_PAGE: u16 = 0xFFFF;
@@ -15,6 +16,28 @@ pub struct OptionPageID(pub u16);
 pub enum MaybePageID {
     None,
     Some(PageID),
+}
+
+impl MaybePageID {
+    // It is no refusal in either case.
+    pub fn number(self) -> u8
+        ensures answers { λ r. ⌜ r ≡ maybeTold self .number ⌝ }
+    {
+        match self {
+            MaybePageID::None => 0,
+            MaybePageID::Some(_) => 0,
+        }
+    }
+
+    // The page, or another one where there is none.
+    pub fn page_or(self, other: PageID) -> PageID
+        ensures answers { λ r. ⌜ r .0 ≡ sizeOr (other .0) 0 (maybeTold self) ⌝ }
+    {
+        match self {
+            MaybePageID::None => other,
+            MaybePageID::Some(page) => page,
+        }
+    }
 }
 
 impl PageID {

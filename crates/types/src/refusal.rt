@@ -1,5 +1,6 @@
 // Why a call is refused: the table of docs/RULES.md, Refusals, row for row.
 ghost use mathlib.Core.Path.{_≡_};
+ghost use Rattle.types.specs.Answers.{verdictTold};
 ghost use Rattle.types.specs.Refusals.{numberOf};
 
 pub enum Refusal {
@@ -50,6 +51,17 @@ impl Refusal {
             Refusal::Cut => 9,
             Refusal::BadRuns => 10,
             Refusal::BadState => 11,
+        }
+    }
+}
+
+impl Verdict {
+    pub fn number(self) -> u8
+        ensures answers { λ r. ⌜ r ≡ verdictTold self .number ⌝ }
+    {
+        match self {
+            Verdict::Fine => 0,
+            Verdict::Refused(why) => why.number(),
         }
     }
 }

@@ -36,7 +36,7 @@ use Rattle.writer.specs.Openings.{openedAfter, appendedAt, appended}
 use Rattle.writer.specs.States.{firstChunk, fresh}
 use Rattle.writer.specs.Verdicts.{headingVerdict, openVerdict}
 use Rattle.writer.specs.Writes.{takes, grown, isFull, closeOps, closed, payloadOps, takingOps, takenOf, writeOps, written}
-use Rattle.writer.specs.declared.answers.Opening.the-variants.{Open}
+use Rattle.types.specs.declared.answers.Outcome.the-variants.{Done}
 use Rattle.writer.specs.declared.page_writer.PageWriter.{PageWriter}
 use Rattle.writer.proofs.CheckLaws.{heading-passed, sound}
 use Rattle.writer.proofs.PlaceLaws.{taking-unarmed, length-bufferOf, payload-rising, rest-rising}
@@ -70,12 +70,12 @@ resume-clean : (e : ℕ) (page : PageID) (h o : ℕ) (p : List ℕ) (t : Bool) �
 resume-clean e page h o p true short q = fresh-clean e page h o p (erased-from e o p q)
 resume-clean e page h o p false short q = fresh-clean e page h pageSize p (λ i low. List·getD-eq-default p e (let l : length p ≤ i = omega arith in l))
 
-pub append-clean : (e : ℕ) (xs : List ℕ) (page : PageID) (h : ℕ) (w : PageWriter) (left : ℕ) → appended e xs page h w left .answer ≡ Open
+pub append-clean : (e : ℕ) (xs : List ℕ) (page : PageID) (h : ℕ) (w : PageWriter) (left : ℕ) → appended e xs page h w left .answer ≡ Done
     → Clean e (appended e xs page h w left .writer) (pageOf (page .0) xs)
 unfolding appended
 append-clean e xs page h w left = by (openVerdict (length xs) (page .0) h) (walkEnd (pageOf (page .0) xs) (firstChunk h))
   where
-    by : (v : Verdict) (end : Ending) → openedAfter v w left (appendedAt e (pageOf (page .0) xs) page h w left end) .answer ≡ Open
+    by : (v : Verdict) (end : Ending) → openedAfter v w left (appendedAt e (pageOf (page .0) xs) page h w left end) .answer ≡ Done
         → Clean e (openedAfter v w left (appendedAt e (pageOf (page .0) xs) page h w left end) .writer) (pageOf (page .0) xs)
     by (verdict.Refused why) end a = let z : _≡_ {A = ℕ} 0 1 = cc in absurd (omega arith)
     by verdict.Fine Corrupted a = let z : _≡_ {A = ℕ} 0 1 = cc in absurd (omega arith)

@@ -19,7 +19,7 @@ use Rattle.writer.specs.Duties.{commitDuty}
 use Rattle.writer.specs.Outcomes.{came}
 use Rattle.writer.specs.Verdicts.{writerVerdict}
 use Rattle.writer.specs.declared.answers.Ended.{Ended}
-use Rattle.writer.specs.declared.answers.Outcome.the-variants as outcome
+use Rattle.types.specs.declared.answers.Outcome.the-variants as outcome
 use Rattle.writer.specs.declared.page_writer.PageWriter.{PageWriter}
 use Rattle.writer.proofs.OutcomeLaws.{Ends, ends-ran, ends-none}
 

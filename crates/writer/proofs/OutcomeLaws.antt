@@ -12,7 +12,7 @@ use Rattle.flash.proofs.OperationLaws.{Ran, ran-none}
 use Rattle.writer.specs.Duties.{Duty, handsBack, leaves}
 use Rattle.writer.specs.Outcomes.{came}
 use Rattle.writer.specs.declared.answers.Ended.{Ended}
-use Rattle.writer.specs.declared.answers.Outcome.the-variants as outcome
+use Rattle.types.specs.declared.answers.Outcome.the-variants as outcome
 use Rattle.writer.specs.declared.page_writer.PageWriter.{PageWriter}
 
 -- out is handed back and ys is the flash, as a call's duty says

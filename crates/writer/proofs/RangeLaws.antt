@@ -29,7 +29,7 @@ use Rattle.writer.specs.States.{firstChunk, mostPending, inRange, fresh,
 use Rattle.writer.specs.Verdicts.{openVerdict}
 use Rattle.writer.specs.Writes.{takes, grown, isFull, closed, takenOf, written}
 use Rattle.writer.specs.declared.answers.Opened.{Opened}
-use Rattle.writer.specs.declared.answers.Opening.the-variants.{Open, Refused}
+use Rattle.types.specs.declared.answers.Outcome.the-variants.{Done, Refused}
 use Rattle.writer.specs.declared.page_writer.PageWriter.{PageWriter}
 use Rattle.writer.proofs.CheckLaws.{Sound, sound, sound-range, header-facts, open-passed}
 
@@ -145,11 +145,11 @@ open-fresh n page h o armed e a b c =
 first-place : (n p h : ℕ) → openVerdict n p h ≡ verdict.Fine → (firstChunk h % align ≡ 0) × (firstChunk h ≤ pageSize)
 first-place n p h e = let f = header-facts h (open-passed n p h e .1 .0) in (omega arith, omega arith)
 
-pub open-range : (xs : List ℕ) (page : PageID) (h : ℕ) (w : PageWriter) (left : ℕ) → opened xs page h w left .answer ≡ Open → inRange (opened xs page h w left .writer) ≡ true
+pub open-range : (xs : List ℕ) (page : PageID) (h : ℕ) (w : PageWriter) (left : ℕ) → opened xs page h w left .answer ≡ Done → inRange (opened xs page h w left .writer) ≡ true
 unfolding opened
 open-range xs page h w left = by (openVerdict (length xs) (page .0) h) refl
   where
-    by : (v : Verdict) → openVerdict (length xs) (page .0) h ≡ v → openedAfter v w left (openAs (fresh true page h (firstChunk h)) left) .answer ≡ Open
+    by : (v : Verdict) → openVerdict (length xs) (page .0) h ≡ v → openedAfter v w left (openAs (fresh true page h (firstChunk h)) left) .answer ≡ Done
         → inRange (openedAfter v w left (openAs (fresh true page h (firstChunk h)) left) .writer) ≡ true
     by (verdict.Refused why) e a = let z : _≡_ {A = ℕ} 0 1 = cc in absurd (omega arith)
     by verdict.Fine e a = let f = first-place (length xs) (page .0) h e in open-fresh (length xs) page h (firstChunk h) true e (f .0) (omega arith) (f .1)
@@ -163,13 +163,13 @@ resume-place e h o bytes a b c = by (allErased e (drop o bytes))
     by true = (a, (b, c))
     by false = (refl, (omega arith, omega arith))
 
-pub append-range : (e : ℕ) (xs : List ℕ) (page : PageID) (h : ℕ) (w : PageWriter) (left : ℕ) → appended e xs page h w left .answer ≡ Open
+pub append-range : (e : ℕ) (xs : List ℕ) (page : PageID) (h : ℕ) (w : PageWriter) (left : ℕ) → appended e xs page h w left .answer ≡ Done
     → inRange (appended e xs page h w left .writer) ≡ true
 unfolding appended
 append-range e xs page h w left = by (openVerdict (length xs) (page .0) h) refl (walkEnd (pageOf (page .0) xs) (firstChunk h)) refl
   where
     by : (v : Verdict) → openVerdict (length xs) (page .0) h ≡ v → (end : Ending) → walkEnd (pageOf (page .0) xs) (firstChunk h) ≡ end
-        → openedAfter v w left (appendedAt e (pageOf (page .0) xs) page h w left end) .answer ≡ Open
+        → openedAfter v w left (appendedAt e (pageOf (page .0) xs) page h w left end) .answer ≡ Done
         → inRange (openedAfter v w left (appendedAt e (pageOf (page .0) xs) page h w left end) .writer) ≡ true
     by (verdict.Refused why) p end q a = let z : _≡_ {A = ℕ} 0 1 = cc in absurd (omega arith)
     by verdict.Fine p Corrupted q a = let z : _≡_ {A = ℕ} 0 1 = cc in absurd (omega arith)
@@ -183,7 +183,7 @@ append-range e xs page h w left = by (openVerdict (length xs) (page .0) h) refl 
 
 -- an opening is done, or the writer is as at entry
 abbrev DoneOrBack : PageWriter → Opened → Type 0
-DoneOrBack w o = (o .answer ≡ Open) ⊎ (o .writer ≡ w)
+DoneOrBack w o = (o .answer ≡ Done) ⊎ (o .writer ≡ w)
 
 open-or-back : (xs : List ℕ) (page : PageID) (h : ℕ) (w : PageWriter) (left : ℕ) → DoneOrBack w (opened xs page h w left)
 unfolding opened

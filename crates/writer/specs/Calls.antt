@@ -3,11 +3,11 @@
 use mathlib.Core.List.{List, [], _∷_}
 use Prim.Native.Nat.{ℕ}
 use lib.ListN.{length}
-use Rattle.types.specs.Answers.{Told}
+use Rattle.types.specs.Answers.{Told, outcomeTold}
 use Rattle.types.specs.Build.{eraseValue}
 use Rattle.types.specs.declared.page_id.PageID.{PageID}
 use Rattle.flash.specs.Operations.{Op}
-use Rattle.writer.specs.Answers.{openingTold, outcomeTold, takingTold}
+use Rattle.writer.specs.Answers.{takingTold}
 use Rattle.writer.specs.Duties.{Duty, writeDuty, commitDuty, headingDuty, handsBack, leaves, makes}
 use Rattle.writer.specs.Openings.{opened, appended}
 use Rattle.writer.specs.Outcomes.{wrote}
@@ -63,8 +63,8 @@ openedWorld x o = record { flash = x .flash; writer = o .writer; left = o .left 
 
 -- what it answers
 unfoldable pub answerTo : World → Call → Told
-answerTo x (openPage h power) = openingTold (openOf x h power .answer)
-answerTo x (openAppend h power) = openingTold (appendOf x h power .answer)
+answerTo x (openPage h power) = outcomeTold (openOf x h power .answer)
+answerTo x (openAppend h power) = outcomeTold (appendOf x h power .answer)
 answerTo x (writeHeader magic header) = outcomeTold (endOf x (headingIn x magic header) .answer)
 answerTo x (write bytes) = takingTold (wrote (takes (length bytes) (x .writer)) (endOf x (writeIn x bytes)) .answer)
 answerTo x commit = outcomeTold (endOf x (commitIn x) .answer)

@@ -16,12 +16,12 @@ use Rattle.page.specs.declared.walk.Ending.the-variants.{EndAt, Corrupted}
 use Rattle.writer.specs.States.{firstChunk, fresh}
 use Rattle.writer.specs.Verdicts.{openVerdict}
 use Rattle.writer.specs.declared.answers.Opened.{Opened}
-use Rattle.writer.specs.declared.answers.Opening.the-variants.{Open, Refused}
+use Rattle.types.specs.declared.answers.Outcome.the-variants.{Done, Refused}
 use Rattle.writer.specs.declared.page_writer.PageWriter.{PageWriter}
 
 -- a writer that is open, and one that was refused and is as at entry
 abbrev pub openAs : PageWriter → ℕ → Opened
-openAs w left = record { answer = Open; writer = w; left = left }
+openAs w left = record { answer = Done; writer = w; left = left }
 
 abbrev pub refusedAs : Refusal → PageWriter → ℕ → Opened
 refusedAs why w left = record { answer = Refused why; writer = w; left = left }

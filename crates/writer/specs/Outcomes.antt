@@ -14,10 +14,10 @@ use Rattle.writer.specs.States.{inRange}
 use Rattle.writer.specs.declared.answers.Ended.{Ended}
 use Rattle.writer.specs.declared.answers.Length.{Length}
 use Rattle.writer.specs.declared.answers.Length.the-variants as len
-use Rattle.writer.specs.declared.answers.Outcome.{Outcome}
-use Rattle.writer.specs.declared.answers.Outcome.the-variants as outcome
-use Rattle.writer.specs.declared.answers.Place.{Place}
-use Rattle.writer.specs.declared.answers.Place.the-variants as place
+use Rattle.types.specs.declared.answers.Outcome.{Outcome}
+use Rattle.types.specs.declared.answers.Outcome.the-variants as outcome
+use Rattle.types.specs.declared.answers.PageOf.{PageOf}
+use Rattle.types.specs.declared.answers.PageOf.the-variants as of
 use Rattle.writer.specs.declared.answers.Taking.{Taking}
 use Rattle.writer.specs.declared.answers.Taking.the-variants as taking
 use Rattle.writer.specs.declared.answers.Wrote.{Wrote}
@@ -60,5 +60,5 @@ wrote n e = record { answer = took n (e .answer); writer = e .writer; left = e .
 abbrev pub lengthOf : PageWriter → Length
 lengthOf w = cond (inRange w) (len.Bytes (w .total)) (len.Refused BadState)
 
-abbrev pub placeOf : PageWriter → Place
-placeOf w = cond (inRange w) (place.Page (w .page)) (place.Refused BadState)
+abbrev pub placeOf : PageWriter → PageOf
+placeOf w = cond (inRange w) (of.Page (w .page)) (of.Refused BadState)

@@ -1,30 +1,15 @@
-// What the calls answer. Each answer has a case for its refusals, and the number of the row that refuses, 0 where none
-// does. Beside it are the writer and the number of stores left.
+// What the calls answer. Each answer type hands out the number of the row that refuses, 0 where none does, and its values,
+// where it has any. Beside the answer are the writer and the number of stores left.
 ghost use mathlib.Core.Path.{_≡_};
-ghost use Rattle.writer.specs.Answers.{openingTold, takingTold, outcomeTold, lengthTold, placeTold};
+ghost use Rattle.types.specs.Answers.{sizeOr};
+ghost use Rattle.writer.specs.Answers.{takingTold, lengthTold};
 use super::page_writer::PageWriter;
-use types::page_id::PageID;
+use types::answers::Outcome;
 use types::refusal::Refusal;
 
 // The answer of open and open_append.
-pub enum Opening {
-    Open,
-    Refused(Refusal),
-}
-
-impl Opening {
-    pub fn number(self) -> u8
-        ensures answers { λ r. ⌜ r ≡ openingTold self .number ⌝ }
-    {
-        match self {
-            Opening::Open => 0,
-            Opening::Refused(no) => no.number(),
-        }
-    }
-}
-
 pub struct Opened {
-    pub answer: Opening,
+    pub answer: Outcome,
     pub writer: PageWriter,
     pub left: usize,
 }
@@ -41,7 +26,17 @@ impl Taking {
     {
         match self {
             Taking::Took(_) => 0,
-            Taking::Refused(no) => no.number(),
+            Taking::Refused(why) => why.number(),
+        }
+    }
+
+    // How many bytes were taken, 0 where the call was refused.
+    pub fn bytes(self) -> usize
+        ensures answers { λ r. ⌜ r ≡ sizeOr 0 0 (takingTold self) ⌝ }
+    {
+        match self {
+            Taking::Took(n) => n,
+            Taking::Refused(_) => 0,
         }
     }
 }
@@ -53,22 +48,6 @@ pub struct Wrote {
 }
 
 // The answer of commit and write_header.
-pub enum Outcome {
-    Done,
-    Refused(Refusal),
-}
-
-impl Outcome {
-    pub fn number(self) -> u8
-        ensures answers { λ r. ⌜ r ≡ outcomeTold self .number ⌝ }
-    {
-        match self {
-            Outcome::Done => 0,
-            Outcome::Refused(no) => no.number(),
-        }
-    }
-}
-
 pub struct Ended {
     pub answer: Outcome,
     pub writer: PageWriter,
@@ -87,24 +66,17 @@ impl Length {
     {
         match self {
             Length::Bytes(_) => 0,
-            Length::Refused(no) => no.number(),
+            Length::Refused(why) => why.number(),
         }
     }
-}
 
-// The answer of page_id.
-pub enum Place {
-    Page(PageID),
-    Refused(Refusal),
-}
-
-impl Place {
-    pub fn number(self) -> u8
-        ensures answers { λ r. ⌜ r ≡ placeTold self .number ⌝ }
+    // How many bytes, 0 where the call was refused.
+    pub fn bytes(self) -> usize
+        ensures answers { λ r. ⌜ r ≡ sizeOr 0 0 (lengthTold self) ⌝ }
     {
         match self {
-            Place::Page(_) => 0,
-            Place::Refused(no) => no.number(),
+            Length::Bytes(n) => n,
+            Length::Refused(_) => 0,
         }
     }
 }

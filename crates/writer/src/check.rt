@@ -47,7 +47,7 @@ fn first(a: Verdict, b: Verdict) -> Verdict
 {
     match a {
         Verdict::Fine => b,
-        Verdict::Refused(no) => Verdict::Refused(no),
+        Verdict::Refused(why) => Verdict::Refused(why),
     }
 }
 

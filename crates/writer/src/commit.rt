@@ -1,6 +1,5 @@
 // Finishing a chunk.
 use super::answers::Ended;
-use super::answers::Outcome;
 use super::check::check_writer;
 use super::outcome::came;
 use super::page_writer::PageWriter;
@@ -10,6 +9,7 @@ use flash::ops::erase_if;
 use flash::ops::store_if;
 use page::chunk::align_up;
 use page::chunk::chunk_header;
+use types::answers::Outcome;
 use types::config::ALIGN;
 use types::config::CHUNK_HEADER_SIZE;
 use types::config::ERASE_VALUE;
@@ -75,9 +75,9 @@ impl PageWriter {
         ensures answers { λ r. ⌜ r ≡ handsBack (commitDuty eraseValue (now (flash .entry)) self) self left ⌝ }
         ensures bytes { λ _. ⌜ now (flash .exit) ≡ leaves (commitDuty eraseValue (now (flash .entry)) self) self left (now (flash .entry)) ⌝ }
     {
-        if let Verdict::Refused(no) = check_writer(flash.len(), self) {
+        if let Verdict::Refused(why) = check_writer(flash.len(), self) {
             return Ended {
-                answer: Outcome::Refused(no),
+                answer: Outcome::Refused(why),
                 writer: self,
                 left,
             };

@@ -1,6 +1,5 @@
 // Writing the page header.
 use super::answers::Ended;
-use super::answers::Outcome;
 use super::buffer::lay;
 use super::check::check_heading;
 use super::outcome::came;
@@ -10,6 +9,7 @@ use flash::ops::Spent;
 use flash::ops::erase_if;
 use flash::ops::store_if;
 use slices::field::put32;
+use types::answers::Outcome;
 use types::config::ERASE_VALUE;
 use types::config::MAX_HEADER_SIZE;
 use types::config::PAGE_HEADER_SIZE;
@@ -64,9 +64,9 @@ impl PageWriter {
         ensures answers { λ r. ⌜ r ≡ handsBack (headingDuty eraseValue (now (flash .entry)) self magic (now (header .entry))) self left ⌝ }
         ensures bytes { λ _. ⌜ now (flash .exit) ≡ leaves (headingDuty eraseValue (now (flash .entry)) self magic (now (header .entry))) self left (now (flash .entry)) ⌝ }
     {
-        if let Verdict::Refused(no) = check_heading(flash.len(), self, header.len()) {
+        if let Verdict::Refused(why) = check_heading(flash.len(), self, header.len()) {
             return Ended {
-                answer: Outcome::Refused(no),
+                answer: Outcome::Refused(why),
                 writer: self,
                 left,
             };

@@ -1,6 +1,5 @@
 // Opening a page, to write it anew or to add to it.
 use super::answers::Opened;
-use super::answers::Opening;
 use super::check::check_open;
 use super::page_writer::PageWriter;
 use flash::geometry::page_of;
@@ -8,6 +7,7 @@ use page::walk::Ending;
 use page::walk::all_erased;
 use page::walk::walk_end;
 use slices::part::part_of;
+use types::answers::Outcome;
 use types::config::ERASE_VALUE;
 use types::config::PAGE_HEADER_SIZE;
 use types::config::PAGE_SIZE;
@@ -34,15 +34,15 @@ impl PageWriter {
     pub fn open(self, flash: &[u8], page: PageID, h: usize, left: usize) -> Opened
         ensures answers { λ r. ⌜ r ≡ opened (now (flash .entry)) page h self left ⌝ }
     {
-        if let Verdict::Refused(no) = check_open(flash.len(), page, h) {
+        if let Verdict::Refused(why) = check_open(flash.len(), page, h) {
             return Opened {
-                answer: Opening::Refused(no),
+                answer: Outcome::Refused(why),
                 writer: self,
                 left,
             };
         }
         Opened {
-            answer: Opening::Open,
+            answer: Outcome::Done,
             writer: PageWriter::fresh(true, page, h, PAGE_HEADER_SIZE + h),
             left,
         }
@@ -52,9 +52,9 @@ impl PageWriter {
     pub fn open_append(self, flash: &[u8], page: PageID, h: usize, left: usize) -> Opened
         ensures answers { λ r. ⌜ r ≡ appended eraseValue (now (flash .entry)) page h self left ⌝ }
     {
-        if let Verdict::Refused(no) = check_open(flash.len(), page, h) {
+        if let Verdict::Refused(why) = check_open(flash.len(), page, h) {
             return Opened {
-                answer: Opening::Refused(no),
+                answer: Outcome::Refused(why),
                 writer: self,
                 left,
             };
@@ -62,14 +62,14 @@ impl PageWriter {
         let bytes = page_of(flash, page);
         let Ending::EndAt(end) = walk_end(bytes, PAGE_HEADER_SIZE + h) else {
             return Opened {
-                answer: Opening::Refused(Refusal::Corrupted),
+                answer: Outcome::Refused(Refusal::Corrupted),
                 writer: self,
                 left,
             };
         };
         let at = resume_at(bytes, end);
         Opened {
-            answer: Opening::Open,
+            answer: Outcome::Done,
             writer: PageWriter::fresh(false, page, h, at),
             left,
         }

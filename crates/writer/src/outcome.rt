@@ -1,10 +1,10 @@
 // What a call hands back after its operations.
 use super::answers::Ended;
-use super::answers::Outcome;
 use super::answers::Taking;
 use super::answers::Wrote;
 use super::page_writer::PageWriter;
 use flash::ops::Spent;
+use types::answers::Outcome;
 use types::refusal::Refusal;
 ghost use mathlib.Core.Path.{_≡_};
 ghost use Rattle.writer.specs.Outcomes.{came, wrote};
@@ -40,8 +40,8 @@ pub(crate) fn wrote(n: usize, e: Ended) -> Wrote
             writer,
             left: e.left,
         },
-        Outcome::Refused(no) => Wrote {
-            answer: Taking::Refused(no),
+        Outcome::Refused(why) => Wrote {
+            answer: Taking::Refused(why),
             writer,
             left: e.left,
         },

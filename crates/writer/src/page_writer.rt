@@ -1,8 +1,8 @@
 // The writer by value: where it writes, and what waits to be stored.
 use super::answers::Length;
-use super::answers::Place;
 use super::check::in_range;
 use crc::register::Crc32;
+use types::answers::PageOf;
 use types::config::ALIGN;
 use types::config::PAGE_HEADER_SIZE;
 use types::page_id::PageID;
@@ -62,14 +62,14 @@ impl PageWriter {
         }
     }
 
-    pub fn page_id(self) -> Place
+    pub fn page_id(self) -> PageOf
         ensures answers { λ r. ⌜ r ≡ placeOf self ⌝ }
     {
         let page = self.page;
         if in_range(self) {
-            Place::Page(page)
+            PageOf::Page(page)
         } else {
-            Place::Refused(Refusal::BadState)
+            PageOf::Refused(Refusal::BadState)
         }
     }
 }

@@ -126,9 +126,9 @@ impl PageWriter {
         ensures answers { λ r. ⌜ r ≡ wrote (takes (length (now (bytes .entry))) self) (handsBack (writeDuty eraseValue (now (flash .entry)) self (now (bytes .entry))) self left) ⌝ }
         ensures bytes { λ _. ⌜ now (flash .exit) ≡ leaves (writeDuty eraseValue (now (flash .entry)) self (now (bytes .entry))) self left (now (flash .entry)) ⌝ }
     {
-        if let Verdict::Refused(no) = check_writer(flash.len(), self) {
+        if let Verdict::Refused(why) = check_writer(flash.len(), self) {
             return Wrote {
-                answer: Taking::Refused(no),
+                answer: Taking::Refused(why),
                 writer: self,
                 left,
             };

@@ -24,14 +24,14 @@ abbrev μ-loop : tie.MeasureT-loop
 state-check-requires : tie.Need-state-check-requires Inv-loop μ-loop
 state-check-requires c κs = search needs
 
-enum-known-no : tie.Need-enum-known-no Inv-loop μ-loop
-enum-known-no c = search needs
+enum-known-why : tie.Need-enum-known-why Inv-loop μ-loop
+enum-known-why c = search needs
 
 refused-requires : tie.Need-refused-requires Inv-loop μ-loop
 refused-requires c κs = search needs
 
 returns : tie.Need-returns Inv-loop μ-loop
-returns c = c .refused .ensures ∙ refused-free _ _ _ (sym (c .before .before .before .before .state-check .ensures) ∙ c .before .before .no .given .1)
+returns c = c .refused .ensures ∙ refused-free _ _ _ (sym (c .before .before .before .before .state-check .ensures) ∙ c .before .before .why .given .1)
 
 enum-told : tie.Need-enum-told Inv-loop μ-loop
 enum-told c = search needs
@@ -143,7 +143,7 @@ free-each-spec =
     Inv-loop
     μ-loop
     state-check-requires
-    enum-known-no
+    enum-known-why
     refused-requires
     returns
     enum-told

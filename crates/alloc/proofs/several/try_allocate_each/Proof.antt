@@ -28,11 +28,11 @@ abbrev μ-loop : tie.MeasureT-loop
 state-check-requires : tie.Need-state-check-requires Inv-loop μ-loop
 state-check-requires c κs = search needs
 
-enum-known-no : tie.Need-enum-known-no Inv-loop μ-loop
-enum-known-no c = search needs
+enum-known-why : tie.Need-enum-known-why Inv-loop μ-loop
+enum-known-why c = search needs
 
 returns : tie.Need-returns Inv-loop μ-loop
-returns c = refused-each _ _ _ (sym (c .before .before .before .state-check .ensures) ∙ c .before .no .given .1)
+returns c = refused-each _ _ _ (sym (c .before .before .before .state-check .ensures) ∙ c .before .why .given .1)
 
 enum-told : tie.Need-enum-told Inv-loop μ-loop
 enum-told c = search needs
@@ -166,7 +166,7 @@ try-allocate-each-spec =
     Inv-loop
     μ-loop
     state-check-requires
-    enum-known-no
+    enum-known-why
     returns
     enum-told
     loop-holds

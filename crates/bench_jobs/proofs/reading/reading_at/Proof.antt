@@ -1,6 +1,6 @@
 -- `bench_jobs::reading::reading_at` meets its contract. Assumes nothing.
 use mathlib.Core.Path.{sym, ap}
-use Rattle.reader.specs.declared.answers.Outcome.{Outcome}
+use Rattle.types.specs.declared.answers.Outcome.{Outcome}
 use Rattle.bench_jobs.specs.Readings.{readingAt}
 use Rattle.bench_jobs.proofs.ReadingLaws.{reading-refused}
 use borrow.Author.Needs.{needs}

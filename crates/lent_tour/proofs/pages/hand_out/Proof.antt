@@ -41,8 +41,8 @@ use Rattle.alloc.proofs.answers.Allocated as N
 use Rattle.alloc.proofs.answers.Allocated.Laws as N′
 use Rattle.alloc.proofs.answers.Count as Q
 use Rattle.alloc.proofs.answers.Count.Laws as Q′
-use Rattle.alloc.proofs.answers.Outcome as O
-use Rattle.alloc.proofs.answers.Outcome.Laws as O′
+use Rattle.types.proofs.answers.Outcome as O
+use Rattle.types.proofs.answers.Outcome.Laws as O′
 use Rattle.alloc.proofs.allocator.Allocator.new as new
 use Rattle.alloc.proofs.allocator.Allocator.new.Symbol as new-def
 use Rattle.alloc.proofs.allocator.Allocator.new.Symbol.{name as #new}

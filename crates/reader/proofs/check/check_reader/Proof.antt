@@ -11,8 +11,8 @@ use Rattle.reader.proofs.check.check_reader.Tie as tie
 check-flash-requires : tie.Need-check-flash-requires
 check-flash-requires c κs = search needs
 
-enum-known-no : tie.Need-enum-known-no
-enum-known-no c = search needs
+enum-known-why : tie.Need-enum-known-why
+enum-known-why c = search needs
 
 returns : tie.Need-returns
 unfolding readerVerdict
@@ -20,8 +20,8 @@ returns c =
     let at-check-flash = c .before .before .before in
     let start = at-check-flash .before in
     let a = start .args in
-    sym (asked-no (flashFine (a .bytes)) BadFlash (c .before .no .given .0 .0) (asking (inRange (a .r)) BadState (pageVerdict (a .bytes) (a .r .page)))
-    (sym (at-check-flash .check-flash .ensures) ∙ c .before .no .given .1))
+    sym (asked-no (flashFine (a .bytes)) BadFlash (c .before .why .given .0 .0) (asking (inRange (a .r)) BadState (pageVerdict (a .bytes) (a .r .page)))
+    (sym (at-check-flash .check-flash .ensures) ∙ c .before .why .given .1))
 
 enum-told : tie.Need-enum-told
 enum-told c = search needs
@@ -29,8 +29,8 @@ enum-told c = search needs
 check-state-requires : tie.Need-check-state-requires
 check-state-requires c κs = search needs
 
-enum-known-no-2 : tie.Need-enum-known-no-2
-enum-known-no-2 c = search needs
+enum-known-why-2 : tie.Need-enum-known-why-2
+enum-known-why-2 c = search needs
 
 returns-2 : tie.Need-returns-2
 unfolding readerVerdict
@@ -42,7 +42,7 @@ returns-2 c =
     let a = start .args in
     sym (asked-yes (flashFine (a .bytes)) BadFlash (asking (inRange (a .r)) BadState (pageVerdict (a .bytes) (a .r .page)))
     (sym (at-check-flash .check-flash .ensures) ∙ at-enum-told .enum-told .given .1)
-    ∙ asked-no (inRange (a .r)) BadState (c .before .no2 .given .0 .0) (pageVerdict (a .bytes) (a .r .page)) (sym (at-check-state .check-state .ensures) ∙ c .before .no2 .given .1))
+    ∙ asked-no (inRange (a .r)) BadState (c .before .why2 .given .0 .0) (pageVerdict (a .bytes) (a .r .page)) (sym (at-check-state .check-state .ensures) ∙ c .before .why2 .given .1))
 
 enum-told-2 : tie.Need-enum-told-2
 enum-told-2 c = search needs
@@ -68,11 +68,11 @@ check-reader-spec =
     tie.close
     (tie.spec
     check-flash-requires
-    enum-known-no
+    enum-known-why
     returns
     enum-told
     check-state-requires
-    enum-known-no-2
+    enum-known-why-2
     returns-2
     enum-told-2
     check-page-requires

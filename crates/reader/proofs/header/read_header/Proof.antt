@@ -9,13 +9,13 @@ use Rattle.reader.proofs.header.read_header.Tie as tie
 check-open-requires : tie.Need-check-open-requires
 check-open-requires c κs = search needs
 
-enum-known-no : tie.Need-enum-known-no
-enum-known-no c = search needs
+enum-known-why : tie.Need-enum-known-why
+enum-known-why c = search needs
 
 returns : tie.Need-returns
 returns c =
     let a = c .before .before .before .before .before .before .args in
-    header-refused (a .flash .now) (a .magic) (a .page) (a .header .now) (c .before .no .given .0 .0) (sym (c .before .before .before .check-open .ensures) ∙ c .before .no .given .1)
+    header-refused (a .flash .now) (a .magic) (a .page) (a .header .now) (c .before .why .given .0 .0) (sym (c .before .before .before .check-open .ensures) ∙ c .before .why .given .1)
 
 enum-told : tie.Need-enum-told
 enum-told c = search needs
@@ -60,7 +60,7 @@ read-header-spec =
     tie.close
     (tie.spec
     check-open-requires
-    enum-known-no
+    enum-known-why
     returns
     enum-told
     page-of-requires

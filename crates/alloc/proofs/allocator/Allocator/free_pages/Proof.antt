@@ -20,8 +20,8 @@ fine c = sym (c .before .before .before .state-check .ensures) ∙ c .before .en
 sub-t5 : tie.Need-sub-t5
 sub-t5 c = used-le (c .before .before .before .before .args .self) (fine-state (c .before .before .before .before .args .self) (fine c))
 
-enum-known-no : tie.Need-enum-known-no
-enum-known-no c = search needs
+enum-known-why : tie.Need-enum-known-why
+enum-known-why c = search needs
 
 returns : tie.Need-returns
 unfolding freePages
@@ -29,8 +29,8 @@ returns c = rw (fine c)
 
 returns-2 : tie.Need-returns-2
 unfolding freePages
-returns-2 c = rw (sym (c .before .before .before .state-check .ensures) ∙ c .before .no .given .1)
+returns-2 c = rw (sym (c .before .before .before .state-check .ensures) ∙ c .before .why .given .1)
 
 pub free-pages-spec : {M : Type 1} → statement M
 free-pages-spec =
-    tie.close (tie.spec state-check-requires enum-told sub-t5 enum-known-no returns returns-2)
+    tie.close (tie.spec state-check-requires enum-told sub-t5 enum-known-why returns returns-2)

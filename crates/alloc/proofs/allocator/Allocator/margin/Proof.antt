@@ -50,8 +50,8 @@ cast-t8 c = small (wanted c) (fine c .0)
 sub-t9 : tie.Need-sub-t9
 sub-t9 c = margin-fits (free c) (wanted c) (few c) (fine c .0)
 
-enum-known-no : tie.Need-enum-known-no
-enum-known-no c = search needs
+enum-known-why : tie.Need-enum-known-why
+enum-known-why c = search needs
 
 returns : tie.Need-returns
 unfolding marginOf
@@ -59,7 +59,7 @@ returns c = rw (passed c, margin-read (free c) (wanted c) (few c) (fine c .0))
 
 returns-2 : tie.Need-returns-2
 unfolding marginOf
-returns-2 c = rw (sym (c .before .before .before .wanted-check .ensures) ∙ c .before .no .given .1)
+returns-2 c = rw (sym (c .before .before .before .wanted-check .ensures) ∙ c .before .why .given .1)
 
 pub margin-spec : {M : Type 1} → statement M
 margin-spec =
@@ -71,6 +71,6 @@ margin-spec =
     cast-t7
     cast-t8
     sub-t9
-    enum-known-no
+    enum-known-why
     returns
     returns-2)

@@ -12,12 +12,12 @@ use Rattle.alloc.proofs.allocator.Allocator.reset.Tie as tie
 count-check-requires : tie.Need-count-check-requires
 count-check-requires c κs = search needs
 
-enum-known-no : tie.Need-enum-known-no
-enum-known-no c = search needs
+enum-known-why : tie.Need-enum-known-why
+enum-known-why c = search needs
 
 returns : tie.Need-returns
 unfolding reset
-returns c = rw (sym (c .before .before .before .count-check .ensures) ∙ c .before .no .given .1)
+returns c = rw (sym (c .before .before .before .count-check .ensures) ∙ c .before .why .given .1)
 
 enum-told : tie.Need-enum-told
 enum-told c = search needs
@@ -34,4 +34,4 @@ returns-2 c = rw (fine c)
 
 pub reset-spec : {M : Type 1} → statement M
 reset-spec =
-    tie.close (tie.spec count-check-requires enum-known-no returns enum-told rem-t10 returns-2)
+    tie.close (tie.spec count-check-requires enum-known-why returns enum-told rem-t10 returns-2)

@@ -18,12 +18,12 @@ use Rattle.alloc.proofs.allocator.Allocator.try_allocate.Tie as tie
 state-check-requires : tie.Need-state-check-requires
 state-check-requires c κs = search needs
 
-enum-known-no : tie.Need-enum-known-no
-enum-known-no c = search needs
+enum-known-why : tie.Need-enum-known-why
+enum-known-why c = search needs
 
 returns : tie.Need-returns
 unfolding tryAllocate
-returns c = rw (sym (c .before .before .before .state-check .ensures) ∙ c .before .no .given .1)
+returns c = rw (sym (c .before .before .before .state-check .ensures) ∙ c .before .why .given .1)
 
 enum-told : tie.Need-enum-told
 enum-told c = search needs
@@ -88,7 +88,7 @@ try-allocate-spec =
     tie.close
     (tie.spec
     state-check-requires
-    enum-known-no
+    enum-known-why
     returns
     enum-told
     first-free-requires

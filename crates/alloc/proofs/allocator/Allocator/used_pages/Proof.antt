@@ -11,8 +11,8 @@ state-check-requires c κs = search needs
 enum-told : tie.Need-enum-told
 enum-told c = search needs
 
-enum-known-no : tie.Need-enum-known-no
-enum-known-no c = search needs
+enum-known-why : tie.Need-enum-known-why
+enum-known-why c = search needs
 
 returns : tie.Need-returns
 unfolding usedPages
@@ -20,8 +20,8 @@ returns c = rw (sym (c .before .before .state-check .ensures) ∙ c .enum-told .
 
 returns-2 : tie.Need-returns-2
 unfolding usedPages
-returns-2 c = rw (sym (c .before .before .before .state-check .ensures) ∙ c .before .no .given .1)
+returns-2 c = rw (sym (c .before .before .before .state-check .ensures) ∙ c .before .why .given .1)
 
 pub used-pages-spec : {M : Type 1} → statement M
 used-pages-spec =
-    tie.close (tie.spec state-check-requires enum-told enum-known-no returns returns-2)
+    tie.close (tie.spec state-check-requires enum-told enum-known-why returns returns-2)

@@ -7,12 +7,12 @@ use Rattle.reader.proofs.page_reader.PageReader.dehydrate.Tie as tie
 check-state-requires : tie.Need-check-state-requires
 check-state-requires c κs = search needs
 
-enum-known-no : tie.Need-enum-known-no
-enum-known-no c = search needs
+enum-known-why : tie.Need-enum-known-why
+enum-known-why c = search needs
 
 returns : tie.Need-returns
 unfolding dehydrate
-returns c = rw (← c .before .before .before .check-state .ensures, c .before .no .given .1)
+returns c = rw (← c .before .before .before .check-state .ensures, c .before .why .given .1)
 
 enum-told : tie.Need-enum-told
 enum-told c = search needs
@@ -27,4 +27,4 @@ returns-2 c = rw (c .stored-of .ensures, ← c .before .before .before .check-st
 pub dehydrate-spec : {M : Type 1} → statement M
 dehydrate-spec =
     tie.close
-    (tie.spec check-state-requires enum-known-no returns enum-told stored-of-requires returns-2)
+    (tie.spec check-state-requires enum-known-why returns enum-told stored-of-requires returns-2)

@@ -7,12 +7,12 @@ use Rattle.reader.proofs.page_reader.PageReader.page_id.Tie as tie
 check-state-requires : tie.Need-check-state-requires
 check-state-requires c κs = search needs
 
-enum-known-no : tie.Need-enum-known-no
-enum-known-no c = search needs
+enum-known-why : tie.Need-enum-known-why
+enum-known-why c = search needs
 
 returns : tie.Need-returns
 unfolding pageId
-returns c = rw (← c .before .before .before .check-state .ensures, c .before .no .given .1)
+returns c = rw (← c .before .before .before .check-state .ensures, c .before .why .given .1)
 
 enum-told : tie.Need-enum-told
 enum-told c = search needs
@@ -22,4 +22,4 @@ unfolding pageId
 returns-2 c = rw (← c .before .before .before .check-state .ensures, c .before .enum-told .given .1)
 
 pub page-id-spec : {M : Type 1} → statement M
-page-id-spec = tie.close (tie.spec check-state-requires enum-known-no returns enum-told returns-2)
+page-id-spec = tie.close (tie.spec check-state-requires enum-known-why returns enum-told returns-2)

@@ -10,13 +10,13 @@ use Rattle.reader.proofs.page_reader.PageReader.read.Tie as tie
 check-reader-requires : tie.Need-check-reader-requires
 check-reader-requires c κs = search needs
 
-enum-known-no : tie.Need-enum-known-no
-enum-known-no c = search needs
+enum-known-why : tie.Need-enum-known-why
+enum-known-why c = search needs
 
 returns : tie.Need-returns
 returns c =
     let a = c .before .before .before .before .before .before .args in
-    read-refused (a .self) (a .flash .now) (c .before .no .given .0 .0) (sym (c .before .before .before .check-reader .ensures) ∙ c .before .no .given .1) (a .buffer .now)
+    read-refused (a .self) (a .flash .now) (c .before .why .given .0 .0) (sym (c .before .before .before .check-reader .ensures) ∙ c .before .why .given .1) (a .buffer .now)
 
 enum-told : tie.Need-enum-told
 enum-told c = search needs
@@ -95,7 +95,7 @@ read-spec =
     tie.close
     (tie.spec
     check-reader-requires
-    enum-known-no
+    enum-known-why
     returns
     enum-told
     page-of-requires

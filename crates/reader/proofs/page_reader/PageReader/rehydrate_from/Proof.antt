@@ -13,14 +13,14 @@ restored-of-requires c κs = search needs
 check-reader-requires : tie.Need-check-reader-requires
 check-reader-requires c κs = search needs
 
-enum-known-no : tie.Need-enum-known-no
-enum-known-no c = search needs
+enum-known-why : tie.Need-enum-known-why
+enum-known-why c = search needs
 
 returns : tie.Need-returns
 returns c =
     let a = c .before .before .before .before .before .before .args in
-    rehydrate-refused (a .self) (a .flash .now) (a .dehydrated) (c .before .no .given .0 .0)
-    (rw (c .before .before .before .before .restored-of .ensures) at (sym (c .before .before .before .check-reader .ensures) ∙ c .before .no .given .1))
+    rehydrate-refused (a .self) (a .flash .now) (a .dehydrated) (c .before .why .given .0 .0)
+    (rw (c .before .before .before .before .restored-of .ensures) at (sym (c .before .before .before .check-reader .ensures) ∙ c .before .why .given .1))
 
 enum-told : tie.Need-enum-told
 enum-told c = search needs
@@ -79,7 +79,7 @@ rehydrate-from-spec =
     (tie.spec
     restored-of-requires
     check-reader-requires
-    enum-known-no
+    enum-known-why
     returns
     enum-told
     returns-2

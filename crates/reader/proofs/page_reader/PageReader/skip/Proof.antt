@@ -9,13 +9,13 @@ use Rattle.reader.proofs.page_reader.PageReader.skip.Tie as tie
 check-reader-requires : tie.Need-check-reader-requires
 check-reader-requires c κs = search needs
 
-enum-known-no : tie.Need-enum-known-no
-enum-known-no c = search needs
+enum-known-why : tie.Need-enum-known-why
+enum-known-why c = search needs
 
 returns : tie.Need-returns
 returns c =
     let a = c .before .before .before .before .before .args in
-    skip-refused (a .self) (a .flash .now) (c .before .no .given .0 .0) (sym (c .before .before .before .check-reader .ensures) ∙ c .before .no .given .1) (a .count)
+    skip-refused (a .self) (a .flash .now) (c .before .why .given .0 .0) (sym (c .before .before .before .check-reader .ensures) ∙ c .before .why .given .1) (a .count)
 
 enum-told : tie.Need-enum-told
 enum-told c = search needs
@@ -69,7 +69,7 @@ skip-spec =
     tie.close
     (tie.spec
     check-reader-requires
-    enum-known-no
+    enum-known-why
     returns
     enum-told
     page-of-requires

@@ -17,8 +17,8 @@ use Rattle.writer.proofs.page_writer.PageWriter.commit.Tie as tie
 check-writer-requires : tie.Need-check-writer-requires
 check-writer-requires c κs = search needs
 
-enum-known-no : tie.Need-enum-known-no
-enum-known-no c = search needs
+enum-known-why : tie.Need-enum-known-why
+enum-known-why c = search needs
 
 returns : tie.Need-returns
 returns c =
@@ -26,7 +26,7 @@ returns c =
     let checked = refused .before .before in
     let a = checked .before .before .args in
     ends-refused (commitDuty eraseValue (a .flash .now) (a .self)) (a .self) (a .left) (a .flash .now)
-    (refused .no .given .0 .0) (sym (checked .check-writer .ensures) ∙ refused .no .given .1)
+    (refused .why .given .0 .0) (sym (checked .check-writer .ensures) ∙ refused .why .given .1)
 
 enum-told : tie.Need-enum-told
 enum-told c = search needs
@@ -90,7 +90,7 @@ commit-spec =
     tie.close
     (tie.spec
     check-writer-requires
-    enum-known-no
+    enum-known-why
     returns
     enum-told
     returns-2

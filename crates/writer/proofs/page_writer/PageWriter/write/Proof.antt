@@ -17,8 +17,8 @@ use Rattle.writer.proofs.page_writer.PageWriter.write.Tie as tie
 check-writer-requires : tie.Need-check-writer-requires
 check-writer-requires c κs = search needs
 
-enum-known-no : tie.Need-enum-known-no
-enum-known-no c = search needs
+enum-known-why : tie.Need-enum-known-why
+enum-known-why c = search needs
 
 returns : tie.Need-returns
 returns c =
@@ -26,7 +26,7 @@ returns c =
     let checked = refused .before .before in
     let a = checked .before .before .before .args in
     write-refused eraseValue (a .self) (a .bytes .now) (a .left) (a .flash .now)
-    (refused .no .given .0 .0) (sym (checked .check-writer .ensures) ∙ refused .no .given .1)
+    (refused .why .given .0 .0) (sym (checked .check-writer .ensures) ∙ refused .why .given .1)
 
 enum-told : tie.Need-enum-told
 enum-told c = search needs
@@ -119,7 +119,7 @@ write-spec =
     tie.close
     (tie.spec
     check-writer-requires
-    enum-known-no
+    enum-known-why
     returns
     enum-told
     takes-requires

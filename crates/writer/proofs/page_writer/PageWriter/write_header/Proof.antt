@@ -16,8 +16,8 @@ use Rattle.writer.proofs.page_writer.PageWriter.write_header.Tie as tie
 check-heading-requires : tie.Need-check-heading-requires
 check-heading-requires c κs = search needs
 
-enum-known-no : tie.Need-enum-known-no
-enum-known-no c = search needs
+enum-known-why : tie.Need-enum-known-why
+enum-known-why c = search needs
 
 returns : tie.Need-returns
 returns c =
@@ -25,7 +25,7 @@ returns c =
     let checked = refused .before .before in
     let a = checked .before .before .before .args in
     ends-refused (headingDuty eraseValue (a .flash .now) (a .self) (a .magic) (a .header .now)) (a .self) (a .left) (a .flash .now)
-    (refused .no .given .0 .0) (sym (checked .check-heading .ensures) ∙ refused .no .given .1)
+    (refused .why .given .0 .0) (sym (checked .check-heading .ensures) ∙ refused .why .given .1)
 
 enum-told : tie.Need-enum-told
 enum-told c = search needs
@@ -67,7 +67,7 @@ write-header-spec =
     tie.close
     (tie.spec
     check-heading-requires
-    enum-known-no
+    enum-known-why
     returns
     enum-told
     head-page-requires
