@@ -18,7 +18,8 @@ use Rattle.flash.specs.Geometry.{flashFine, pageOf}
 use Rattle.page.specs.Chunks.{nextOffset}
 use Rattle.page.specs.Headers.{headerOf, pageHeaderFine}
 use Rattle.page.specs.Walks.{Chunk, walkFrom}
-use Rattle.reader.specs.Answers.{outcomeTold, countTold, endTestTold, dehydrationTold, pageTold}
+use Rattle.types.specs.Answers.{outcomeTold, pageOfTold}
+use Rattle.reader.specs.Answers.{countTold, endTestTold, dehydrationTold}
 use Rattle.reader.specs.Calls.{outcomeAfter, filled, dehydrationAfter}
 use Rattle.reader.specs.Calls.{readHeader, readHeaderBytes, openPage, openBytes, read, readBytes, skip, isAtEof, dehydrate, rehydrateFrom, pageId}
 use Rattle.reader.specs.Checks.{inRange, asking, pageVerdict, stateVerdict, openVerdict, readerVerdict}
@@ -154,7 +155,7 @@ module _ (flash : List ℕ) (k : Held) (known : HeldKnown flash k) where
       either-way flash (a .reader) (k .origin) (eqb (endTestTold (a .answer) .number) 0) (eof-known flash (k .reader) (k .origin) (known .reader))
   reader-after (dehydrates slot) lent = either-way flash (k .reader) (k .origin) (eqb (dehydrationTold (dehydrate (k .reader)) .number) 0) (known .reader)
   reader-after (rehydrates slot) lent = rehydrates-known slot lent
-  reader-after asksItsPage lent = either-way flash (k .reader) (k .origin) (eqb (pageTold (pageId (k .reader)) .number) 0) (known .reader)
+  reader-after asksItsPage lent = either-way flash (k .reader) (k .origin) (eqb (pageOfTold (pageId (k .reader)) .number) 0) (known .reader)
 
   -- ---- and the slots
 

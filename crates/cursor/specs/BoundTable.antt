@@ -6,7 +6,7 @@ use lib.ListN.{length, take, replicate}
 use Rattle.run.specs.RecordTable.{liveA}
 use Rattle.run.specs.declared.bound.Bound.{Bound}
 use Rattle.run.specs.declared.bound.Bound.the-variants.{Unbounded, Included, Excluded}
-use Rattle.cursor.specs.Answers.{nextNumber}
+use Rattle.cursor.specs.Answers.{nextTold}
 use Rattle.cursor.specs.New.{newOf}
 use Rattle.cursor.specs.Next.{nextOf, nextKey}
 use Rattle.cursor.specs.Starred.{liveB, liveC, Case, call}
@@ -76,7 +76,7 @@ roomCases = roomCase 0 0 2 ∷ roomCase 0 1 2 ∷ roomCase 1 0 3 ∷ roomCase 1 
 
 unfoldable pub roomOutcome : RoomCase → ℕ
 roomOutcome x =
-    nextNumber (nextOf liveB (length liveB ∷ []) Unbounded [] (newOf liveB (length liveB ∷ []) Unbounded [] .cursor) (x .keyRoom) (x .valueRoom) .answer)
+    nextTold (nextOf liveB (length liveB ∷ []) Unbounded [] (newOf liveB (length liveB ∷ []) Unbounded [] .cursor) (x .keyRoom) (x .valueRoom) .answer) .number
 
 -- ---- an entry before a refusal
 

@@ -6,7 +6,7 @@ use Prim.Native.Nat.{ℕ, _+_}
 use lib.Dec.{eqb}
 use lib.ListN.{length, replicate}
 use Rattle.types.specs.Bytes.{bytesOf}
-use Rattle.run.specs.Answers.{headNumber}
+use Rattle.run.specs.Answers.{headTold}
 use Rattle.run.specs.Items.{Item, itemIn}
 use Rattle.run.specs.Records.{headAt}
 use Rattle.run.specs.declared.record.Head.{Head}
@@ -73,4 +73,4 @@ recordOf c = 0x48 ∷ 0x56 ∷ c .kind ∷ c .keyLen ∷ (bytesOf 2 (c .valueLen
 
 -- what the record does answer
 unfoldable pub headOutcome : HeadCase → ℕ
-headOutcome c = headNumber (headAt (recordOf c) 0)
+headOutcome c = headTold (headAt (recordOf c) 0) .number
