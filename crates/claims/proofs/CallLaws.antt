@@ -28,7 +28,6 @@ use Rattle.writer.specs.Openings.{openedAfter, appended, appendedAt}
 use Rattle.writer.specs.Outcomes.{ended, endedFlash}
 use Rattle.writer.specs.Verdicts.{writerVerdict, openVerdict}
 use Rattle.writer.specs.Writes.{takes, takenOf, grown, isFull, writeOps, written}
-use Rattle.writer.specs.declared.answers.Opening.the-variants.{Open}
 use Rattle.types.specs.declared.answers.Outcome.the-variants.{Done, Refused}
 use Rattle.writer.specs.declared.page_writer.PageWriter.{PageWriter}
 use Rattle.writer.proofs.RangeLaws.{write-range}
@@ -62,11 +61,11 @@ written-page w bytes = by (eqb (takes (length bytes) w) 0) (isFull (grown w (tak
     by false false = refl
 
 -- the writer that open_append hands back stands on the page that it was asked for
-pub append-page : (e : ℕ) (xs : List ℕ) (page : PageID) (h : ℕ) (w : PageWriter) (k : ℕ) → appended e xs page h w k .answer ≡ Open → appended e xs page h w k .writer .page ≡ page
+pub append-page : (e : ℕ) (xs : List ℕ) (page : PageID) (h : ℕ) (w : PageWriter) (k : ℕ) → appended e xs page h w k .answer ≡ Done → appended e xs page h w k .writer .page ≡ page
 unfolding appended
 append-page e xs page h w k a = by (openVerdict (length xs) (page .0) h) (walkEnd (pageOf (page .0) xs) (firstChunk h)) a
   where
-    by : (v : Verdict) (end : Ending) → openedAfter v w k (appendedAt e (pageOf (page .0) xs) page h w k end) .answer ≡ Open
+    by : (v : Verdict) (end : Ending) → openedAfter v w k (appendedAt e (pageOf (page .0) xs) page h w k end) .answer ≡ Done
         → openedAfter v w k (appendedAt e (pageOf (page .0) xs) page h w k end) .writer .page ≡ page
     by (verdict.Refused why) end a = let z : _≡_ {A = ℕ} 0 1 = cc in absurd (omega arith)
     by verdict.Fine Corrupted a = let z : _≡_ {A = ℕ} 0 1 = cc in absurd (omega arith)

@@ -21,8 +21,6 @@ use Rattle.writer.specs.Openings.{appended}
 use Rattle.writer.specs.Outcomes.{ended, endedFlash, endedOps}
 use Rattle.writer.specs.Verdicts.{writerVerdict}
 use Rattle.writer.specs.Writes.{writeOps, written}
-use Rattle.writer.specs.declared.answers.Opening.{Opening}
-use Rattle.writer.specs.declared.answers.Opening.the-variants as opening
 use Rattle.types.specs.declared.answers.Outcome.{Outcome}
 use Rattle.types.specs.declared.answers.Outcome.the-variants as outcome
 use Rattle.writer.specs.declared.page_writer.PageWriter.{PageWriter}
@@ -107,10 +105,10 @@ pub cut-elsewhere : (e : ℕ) (xs : List ℕ) (page : PageID) (h : ℕ) (w : Pag
 unfolding added
 cut-elsewhere e xs page h w k pieces = by (appended e xs page h w k .answer) refl
   where
-    by : (a : Opening) → appended e xs page h w k .answer ≡ a
+    by : (a : Outcome) → appended e xs page h w k .answer ≡ a
         → OthersKept (page .0) xs (opened a (afterWrites e pieces (appended e xs page h w k .writer) (appended e xs page h w k .left) xs) xs)
-    by (opening.Refused why) a = kept-none (page .0) xs
-    by opening.Open a = writes-kept e page pieces (appended e xs page h w k .writer) (appended e xs page h w k .left) xs (append-page e xs page h w k a)
+    by (outcome.Refused why) a = kept-none (page .0) xs
+    by outcome.Done a = writes-kept e page pieces (appended e xs page h w k .writer) (appended e xs page h w k .left) xs (append-page e xs page h w k a)
 
 -- and after any episodes
 pub history-elsewhere : (e : ℕ) (page : PageID) (h : ℕ) (ts : List Episode) (xs : List ℕ) → OthersKept (page .0) xs (history e xs page h ts)

@@ -21,7 +21,6 @@ use Rattle.writer.specs.States.{fresh, inRange, newWriter}
 use Rattle.writer.specs.Verdicts.{writerVerdict, headingVerdict, openVerdict}
 use Rattle.writer.specs.Writes.{groupOf, bufferOf, payloadOps, takingOps, written}
 use Rattle.writer.specs.declared.answers.Opened.{Opened}
-use Rattle.writer.specs.declared.answers.Opening.the-variants.{Open}
 use Rattle.types.specs.declared.answers.Outcome.the-variants.{Done, Refused}
 use Rattle.writer.specs.declared.page_writer.PageWriter.{PageWriter}
 use Rattle.claims.specs.Sequences.{AddCall, commits, heads, WriterLeft, called, calledAgain, Making, callsMake, callsLeave, allOps, AllLand}
@@ -37,7 +36,7 @@ reopened = appended eraseValue headedFlash workedPage 0 newWriter 9
 abbrev writer : PageWriter
 writer = fresh false workedPage 0 12
 
-reopens : reopened ≡ record { answer = Open; writer = writer; left = 9 }
+reopens : reopened ≡ record { answer = Done; writer = writer; left = 9 }
 unfolding word bytesOf blank pageHeader headedFlash chunkAt walk walkFrom allErased appended openVerdict
 reopens = refl
 
