@@ -6,6 +6,7 @@ use lib.ListN.{length, take, replicate}
 use Rattle.run.specs.RecordTable.{liveA}
 use Rattle.run.specs.declared.bound.Bound.{Bound}
 use Rattle.run.specs.declared.bound.Bound.the-variants.{Unbounded, Included, Excluded}
+use Rattle.types.specs.Answers.{answered}
 use Rattle.cursor.specs.Answers.{nextTold}
 use Rattle.cursor.specs.New.{newOf}
 use Rattle.cursor.specs.Next.{nextOf, nextKey}
@@ -85,5 +86,7 @@ unfoldable pub damagedRun : Case
 damagedRun =
     record {
       runs = (liveA .bytes ++ (0x48 ∷ [])) ∷ [];
-      calls = call 1 1 0 (1 ∷ 1 ∷ []) (0x61 ∷ []) (0x31 ∷ []) (At 8 ∷ []) ∷ call 1 1 1 [] [] [] (At 8 ∷ []) ∷ [];
+      calls = call 1 1 (answered (1 ∷ 1 ∷ [])) (0x61 ∷ []) (0x31 ∷ []) (At 8 ∷ [])
+          ∷ call 1 1 (record { number = 1; values = [] }) [] [] (At 8 ∷ [])
+          ∷ [];
     }

@@ -5,7 +5,6 @@ use mathlib.Core.List.{List}
 use mathlib.Core.Logic.{⊎-elim}
 use Prim.Native.Nat.{ℕ}
 use lib.ListN.{length}
-use borrow.Author.Tests.{eqb-true}
 use Rattle.types.specs.declared.page_id.PageID.{PageID}
 use Rattle.types.specs.declared.refusal.Verdict.the-variants.{Fine}
 use Rattle.types.proofs.TestLaws.{decided}
@@ -17,6 +16,7 @@ use Rattle.reader.specs.Checks.{readerVerdict}
 use Rattle.reader.specs.States.{stored}
 use Rattle.types.specs.declared.answers.Outcome.the-variants as outcome
 use Rattle.reader.specs.declared.page_reader.PageReader.{PageReader}
+use Rattle.page.proofs.ChunkLaws.{fine-sum}
 use Rattle.reader.proofs.OpenLaws.{rehydrate-ended, rehydrate-right}
 use Rattle.reader.proofs.StandingLaws.{Stands}
 
@@ -29,4 +29,4 @@ kept-comes-back r s flash page o v k =
     sum : s .ended ≡ false → published (payloadAt (pageOf (s .page .0) flash) (s .offset) (s .len)) ≡ s .crc
     sum e =
         subst (λ (p : PageID). published (payloadAt (pageOf (p .0) flash) (s .offset) (s .len)) ≡ s .crc) (sym (k .0))
-        (eqb-true (published (payloadAt (pageOf (page .0) flash) (s .offset) (s .len))) (s .crc) (k .1 e .sum))
+        (fine-sum (pageOf (page .0) flash) (s .offset) (s .len) (s .crc) (k .1 e .sum))
