@@ -22,7 +22,7 @@ use Rattle.page.specs.Chunks.{alignUp, chunkMagic, chunkHeader, nextOffset, chu
 use Rattle.page.specs.Walks.{walkFrom, allErased}
 use Rattle.page.specs.declared.chunk.Step.the-variants as step
 use Rattle.page.specs.declared.walk.Ending.the-variants.{EndAt}
-use Rattle.page.proofs.ChunkLaws.{chunk-past, chunk-below}
+use Rattle.page.proofs.ChunkLaws.{chunk-past, end-below}
 use Rattle.page.proofs.ErasedLaws.{erased-blank, chunk-blank}
 use Rattle.page.proofs.LaidLaws.{walk-ended}
 use Rattle.page.proofs.OntoLaws.{walk-kept, walk-added}
@@ -81,7 +81,7 @@ module _ (e : ℕ) (unmarked : word (blank e 2) ≡ chunkMagic → ⊥) (page : 
   walk-before k h =
       let q = applied 0 (take k ops) page in
       let same : take (o + 8) q ≡ take (o + 8) page = front-kept k h in
-      walk-kept page q s o (room .ends) (short-kept k h) (chunk-below o (o + 8) page q (omega arith) same ∙ walk-ended page s o (room .ends) .none)
+      walk-kept page q s o (room .ends) (short-kept k h) (end-below o (o + 8) page q (walk-ended page s o (room .ends) .none) (omega arith) same)
 
   -- ---- after it
 
@@ -118,7 +118,7 @@ module _ (e : ℕ) (unmarked : word (blank e 2) ≡ chunkMagic → ⊥) (page : 
       ∙ take-at payload (stored .padding) n refl
 
   chunk-there : chunkAt full o ≡ step.Chunk (length payload) (published payload) (nextOffset o (length payload))
-  chunk-there = chunk-put laid o (length payload) (published payload) (rw (length-patch, room .whole) (omega arith)) small fits (published-fits payload)
+  chunk-there = chunk-put laid o (length payload) (published payload) (rw (length-patch, room .whole) (omega arith)) small fits (rw (length-patch, room .whole) fits) (published-fits payload)
 
   -- behind the new chunk the page is as it was
   behind-kept : drop (nextOffset o (length payload)) full ≡ drop (nextOffset o (length payload)) page

@@ -50,16 +50,19 @@ tests-alike n k l f g =
     (lt-ltb k n h ∙ sym (lt-ltb l n less), lt-leb n k h ∙ sym (lt-leb n l less)))
     (le-or-lt n k)
 
-alike-below : (n e : ℕ) (p q : List ℕ) → n ≤ e → take e q ≡ take e p → (ltb (length q) n ≡ ltb (length p) n) × (leb n (length q) ≡ leb n (length p))
-alike-below n e p q h a =
+-- lists that agree below e have n bytes both or neither, for any n up to e
+pub long-below : (n e : ℕ) (p q : List ℕ) → n ≤ e → take e q ≡ take e p → n ≤ length p → n ≤ length q
+long-below n e p q h a k =
     let same : min e (length q) ≡ min e (length p) = simp length-take at (ap length a) in
-    tests-alike n (length q) (length p) (λ k. omega arith) (λ k. omega arith)
+    omega arith
 
-pub shorter-below : (n e : ℕ) (p q : List ℕ) → n ≤ e → take e q ≡ take e p → ltb (length q) n ≡ ltb (length p) n
-shorter-below n e p q h a = alike-below n e p q h a .0
+pub short-below : (n e : ℕ) (p q : List ℕ) → n ≤ e → take e q ≡ take e p → length p < n → length q < n
+short-below n e p q h a k =
+    let same : min e (length q) ≡ min e (length p) = simp length-take at (ap length a) in
+    omega arith
 
 pub longer-below : (n e : ℕ) (p q : List ℕ) → n ≤ e → take e q ≡ take e p → leb n (length q) ≡ leb n (length p)
-longer-below n e p q h a = alike-below n e p q h a .1
+longer-below n e p q h a = tests-alike n (length q) (length p) (λ k. long-below n e q p h (sym a) k) (λ k. long-below n e p q h a k) .1
 
 pub shorter-above : (s n : ℕ) (p q : List ℕ) → s < n → drop s q ≡ drop s p → ltb (length q) n ≡ ltb (length p) n
 shorter-above s n p q h a =

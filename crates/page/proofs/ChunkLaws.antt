@@ -16,7 +16,7 @@ use Rattle.slices.specs.Fields.{field}
 use Rattle.page.specs.Chunks.{chunkMagic, nextOffset, chunkOf, chunkAt, payloadAt, payloadFine, sumChecked, checkedAt}
 use Rattle.page.specs.declared.chunk.Step.{Step}
 use Rattle.page.specs.declared.chunk.Step.the-variants.{End, Corrupted, Chunk}
-use Rattle.page.proofs.BelowLaws.{field-below, field-above, shorter-below, shorter-above}
+use Rattle.page.proofs.BelowLaws.{field-below, field-above, long-below, short-below, shorter-above}
 
 -- ---- from the tests to what stands at o
 
@@ -41,7 +41,7 @@ module _ (page : List ℕ) (o : ℕ) where
       chunk-past (le-or-lt (o + 8) 4096)
 
   module _ (room : o + chunkHeaderSize ≤ pageSize) (there : o + chunkHeaderSize ≤ length page) (mark : field 2 page o ≡ chunkMagic) where
-    pub chunk-marked : chunkAt page o ≡ chunkOf o (field 2 page (o + 2)) (field 4 page (o + 4))
+    pub chunk-marked : chunkAt page o ≡ chunkOf page o (field 2 page (o + 2)) (field 4 page (o + 4))
     unfolding chunkAt
     chunk-marked = rw (le-ltb 4096 (o + 8) room, le-ltb (length page) (o + 8) there, eq-eqb (field 2 page o) chunkMagic mark)
 
@@ -51,15 +51,25 @@ module _ (page : List ℕ) (o : ℕ) where
     pub chunk-over : field 2 page (o + 2) ≤ maxChunkSize → pageSize < o + chunkHeaderSize + field 2 page (o + 2) → chunkAt page o ≡ Corrupted
     chunk-over small h = chunk-marked ∙ rw (le-ltb 4076 (field 2 page (o + 2)) small, lt-ltb 4096 (o + 8 + field 2 page (o + 2)) h)
 
+    -- a payload that is not all there
+    pub chunk-missing : field 2 page (o + 2) ≤ maxChunkSize → o + chunkHeaderSize + field 2 page (o + 2) ≤ pageSize
+        → length page < o + chunkHeaderSize + field 2 page (o + 2) → chunkAt page o ≡ Corrupted
+    chunk-missing small fits missing =
+        let l = field 2 page (o + 2) in
+        chunk-marked ∙ rw (le-ltb 4076 l small, le-ltb 4096 (o + 8 + l) fits, lt-ltb (length page) (o + 8 + l) missing)
+
     pub chunk-whole : field 2 page (o + 2) ≤ maxChunkSize → o + chunkHeaderSize + field 2 page (o + 2) ≤ pageSize
+        → o + chunkHeaderSize + field 2 page (o + 2) ≤ length page
         → chunkAt page o ≡ Chunk (field 2 page (o + 2)) (field 4 page (o + 4)) (nextOffset o (field 2 page (o + 2)))
-    chunk-whole small fits = chunk-marked ∙ rw (le-ltb 4076 (field 2 page (o + 2)) small, le-ltb 4096 (o + 8 + field 2 page (o + 2)) fits)
+    chunk-whole small fits whole =
+        let l = field 2 page (o + 2) in
+        chunk-marked ∙ rw (le-ltb 4076 l small, le-ltb 4096 (o + 8 + l) fits, le-ltb (length page) (o + 8 + l) whole)
 
 -- ---- and back
 
 -- what a chunk at o says of the page
 pub record Found (page : List ℕ) (o len crc next : ℕ) : Type 0 where
-  pub there : o + chunkHeaderSize ≤ length page
+  pub whole : o + chunkHeaderSize + len ≤ length page
   pub mark : field 2 page o ≡ chunkMagic
   pub long : field 2 page (o + 2) ≡ len
   pub sum : field 4 page (o + 4) ≡ crc
@@ -67,30 +77,33 @@ pub record Found (page : List ℕ) (o len crc next : ℕ) : Type 0 where
   pub fits : o + chunkHeaderSize + len ≤ pageSize
   pub after : next ≡ nextOffset o len
 
-passed : (past short marked long over : Bool) (a b c len crc next : ℕ)
-    → cond past End (cond short End (cond marked (cond long Corrupted (cond over Corrupted (Chunk a b c))) End)) ≡ Chunk len crc next
-    → ((short ≡ false) × ((marked ≡ true) × ((long ≡ false) × (over ≡ false)))) × ((a ≡ len) × ((b ≡ crc) × (c ≡ next)))
-passed true short marked long over a b c len crc next e = let z : _≡_ {A = ℕ} 0 1 = cc in absurd (omega arith)
-passed false true marked long over a b c len crc next e = let z : _≡_ {A = ℕ} 0 1 = cc in absurd (omega arith)
-passed false false false long over a b c len crc next e = let z : _≡_ {A = ℕ} 0 1 = cc in absurd (omega arith)
-passed false false true true over a b c len crc next e = let z : _≡_ {A = ℕ} 0 1 = cc in absurd (omega arith)
-passed false false true false true a b c len crc next e = let z : _≡_ {A = ℕ} 0 1 = cc in absurd (omega arith)
-passed false false true false false a b c len crc next e = ((refl, (refl, (refl, refl))), (cc, (cc, cc)))
+passed : (past short marked long over missing : Bool) (a b c len crc next : ℕ)
+    → cond past End (cond short End (cond marked (cond long Corrupted (cond over Corrupted (cond missing Corrupted (Chunk a b c)))) End)) ≡ Chunk len crc next
+    → ((missing ≡ false) × ((marked ≡ true) × ((long ≡ false) × (over ≡ false)))) × ((a ≡ len) × ((b ≡ crc) × (c ≡ next)))
+passed true short marked long over missing a b c len crc next e = let z : _≡_ {A = ℕ} 0 1 = cc in absurd (omega arith)
+passed false true marked long over missing a b c len crc next e = let z : _≡_ {A = ℕ} 0 1 = cc in absurd (omega arith)
+passed false false false long over missing a b c len crc next e = let z : _≡_ {A = ℕ} 0 1 = cc in absurd (omega arith)
+passed false false true true over missing a b c len crc next e = let z : _≡_ {A = ℕ} 0 1 = cc in absurd (omega arith)
+passed false false true false true missing a b c len crc next e = let z : _≡_ {A = ℕ} 0 1 = cc in absurd (omega arith)
+passed false false true false false true a b c len crc next e = let z : _≡_ {A = ℕ} 0 1 = cc in absurd (omega arith)
+passed false false true false false false a b c len crc next e = ((refl, (refl, (refl, refl))), (cc, (cc, cc)))
 
 pub chunk-found : (page : List ℕ) (o len crc next : ℕ) → chunkAt page o ≡ Chunk len crc next → Found page o len crc next
 unfolding chunkAt
 chunk-found page o len crc next e =
     let l = field 2 page (o + 2) in
+    let end = o + 8 + l in
     let p =
-    passed (ltb 4096 (o + 8)) (ltb (length page) (o + 8)) (eqb (field 2 page o) chunkMagic) (ltb 4076 l) (ltb 4096 (o + 8 + l)) l (field 4 page (o + 4)) (nextOffset o l) len crc next e in
+    passed (ltb 4096 (o + 8)) (ltb (length page) (o + 8)) (eqb (field 2 page o) chunkMagic) (ltb 4076 l) (ltb 4096 end) (ltb (length page) end)
+    l (field 4 page (o + 4)) (nextOffset o l) len crc next e in
     let f : l ≡ len = p .1 .0 in
     record {
-      there = ltb-false (length page) (o + 8) (p .0 .0);
+      whole = rw f at (ltb-false (length page) end (p .0 .0));
       mark = eqb-true (field 2 page o) chunkMagic (p .0 .1 .0);
       long = f;
       sum = p .1 .1 .0;
       small = rw f at (ltb-false 4076 l (p .0 .1 .1 .0));
-      fits = rw f at (ltb-false 4096 (o + 8 + l) (p .0 .1 .1 .1));
+      fits = rw f at (ltb-false 4096 end (p .0 .1 .1 .1));
       after = sym (p .1 .1 .1) ∙ ap (nextOffset o) f;
     }
 
@@ -104,14 +117,44 @@ next-up page o len crc next e =
 
 -- ---- which bytes count
 
--- the header's eight alone
-pub chunk-below : (o e : ℕ) (p q : List ℕ) → o + chunkHeaderSize ≤ e → take e q ≡ take e p → chunkAt q o ≡ chunkAt p o
-unfolding chunkAt
-chunk-below o e p q h a =
-    let f = field-below 2 o e p q (omega arith) a in
-    let g = field-below 2 (o + 2) e p q (omega arith) a in
-    let k = field-below 4 (o + 4) e p q (omega arith) a in
-    rw (shorter-below (o + 8) e p q h a, f, g, k)
+-- a chunk's own bytes alone
+pub chunk-below : (o len crc next e : ℕ) (p q : List ℕ) → chunkAt p o ≡ Chunk len crc next → o + chunkHeaderSize + len ≤ e → take e q ≡ take e p
+    → chunkAt q o ≡ Chunk len crc next
+chunk-below o len crc next e p q c h a =
+    let f = chunk-found p o len crc next c in
+    let mark : field 2 q o ≡ chunkMagic = field-below 2 o e p q (omega arith) a ∙ f .mark in
+    let long : field 2 q (o + 2) ≡ len = field-below 2 (o + 2) e p q (omega arith) a ∙ f .long in
+    let sum : field 4 q (o + 4) ≡ crc = field-below 4 (o + 4) e p q (omega arith) a ∙ f .sum in
+    let whole : o + 8 + len ≤ length q = long-below (o + 8 + len) e p q h a (f .whole) in
+    let fits : o + 8 + len ≤ 4096 = f .fits in
+    chunk-whole q o (omega arith) (omega arith) mark (rw long (f .small)) (rw long (f .fits)) (rw long whole) ∙ rw (long, sum, f .after)
+
+-- of an end the header's eight
+pub end-below : (o e : ℕ) (p q : List ℕ) → chunkAt p o ≡ End → o + chunkHeaderSize ≤ e → take e q ≡ take e p → chunkAt q o ≡ End
+end-below o e p q c h a =
+    ⊎-elim
+    (λ (room : o + 8 ≤ 4096).
+    ⊎-elim
+    (λ (there : o + 8 ≤ length p).
+    chunk-unmarked q o
+    (λ m. marked-no-end (field-below 2 o e p q (omega arith) a) room there m))
+    (λ (short : length p < o + 8). chunk-short q o (short-below (o + 8) e p q h a short))
+    (le-or-lt (o + 8) (length p)))
+    (chunk-past q o)
+    (le-or-lt (o + 8) 4096)
+  where
+    -- where a header is there and marked, what it says is no end
+    no-end : (long over missing : Bool) (a b c : ℕ) → cond long Corrupted (cond over Corrupted (cond missing Corrupted (Chunk a b c))) ≡ End → ⊥
+    no-end true over missing a b c e = let z : _≡_ {A = ℕ} 0 1 = cc in omega arith
+    no-end false true missing a b c e = let z : _≡_ {A = ℕ} 0 1 = cc in omega arith
+    no-end false false true a b c e = let z : _≡_ {A = ℕ} 0 1 = cc in omega arith
+    no-end false false false a b c e = let z : _≡_ {A = ℕ} 0 1 = cc in omega arith
+
+    marked-no-end : field 2 q o ≡ field 2 p o → o + chunkHeaderSize ≤ pageSize → o + chunkHeaderSize ≤ length p → field 2 q o ≡ chunkMagic → ⊥
+    marked-no-end same room there m =
+        let l = field 2 p (o + 2) in
+        no-end (ltb 4076 l) (ltb 4096 (o + 8 + l)) (ltb (length p) (o + 8 + l)) l (field 4 p (o + 4)) (nextOffset o l)
+        (sym (chunk-marked p o room there (sym same ∙ m)) ∙ c)
 
 pub chunk-above : (s o : ℕ) (p q : List ℕ) → s ≤ o → drop s q ≡ drop s p → chunkAt q o ≡ chunkAt p o
 unfolding chunkAt
@@ -119,7 +162,7 @@ chunk-above s o p q h a =
     let f = field-above 2 s o p q h a in
     let g = field-above 2 s (o + 2) p q (omega arith) a in
     let k = field-above 4 s (o + 4) p q (omega arith) a in
-    rw (shorter-above s (o + 8) p q (omega arith) a, f, g, k)
+    rw (shorter-above s (o + 8) p q (omega arith) a, f, g, shorter-above s (o + 8 + field 2 p (o + 2)) p q (omega arith) a, k)
 
 -- ---- the sum
 

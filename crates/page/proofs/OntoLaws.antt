@@ -29,8 +29,8 @@ module _ (p q : List ℕ) where
       (λ o s h. let z : _≡_ {A = ℕ} 0 1 = cc in absurd (omega arith))
       (λ o len crc next s rest h.
       let up : next ≤ e = walk-ended p next e h .up in
-      let room : o + 8 ≤ e = omega (arith, next-up p o len crc next s) in
-      walk-chunk q o len crc next (chunk-below o e p q room a ∙ s) ∙ rw (rest h))
+      let whole : o + 8 + len ≤ e = omega (arith, next-up p o len crc next s) in
+      walk-chunk q o len crc next (chunk-below o len crc next e p q s whole a) ∙ rw (rest h))
       o h
 
   -- nothing stands at the end: the walk is the same
@@ -78,4 +78,4 @@ pub checked-below : (o len crc next e : ℕ) (p q : List ℕ) → chunkAt p o �
     → checkedAt q o ≡ checkedAt p o
 unfolding checkedAt
 checked-below o len crc next e p q s h a =
-    rw (chunk-below o e p q (omega arith) a, s, payload-below o len e p q h a)
+    rw (chunk-below o len crc next e p q s h a, s, payload-below o len e p q h a)

@@ -56,12 +56,12 @@ module _ (page : List ℕ) (o len crc : ℕ) (room : o + chunkHeaderSize ≤ len
   put-crc h = in-header 4 4 (omega arith) ∙ word-bytesOf 4 crc h
 
   -- the header of a chunk that fits: the walk finds it
-  pub chunk-put : len ≤ maxChunkSize → o + chunkHeaderSize + len ≤ pageSize → crc < 2 ^ 32
+  pub chunk-put : len ≤ maxChunkSize → o + chunkHeaderSize + len ≤ pageSize → o + chunkHeaderSize + len ≤ length page → crc < 2 ^ 32
       → chunkAt (patch o (chunkHeader len crc) page) o ≡ Chunk len crc (nextOffset o len)
-  chunk-put small fits sum =
+  chunk-put small fits whole sum =
       let put = patch o (chunkHeader len crc) page in
       let l : field 2 put (o + 2) ≡ len = put-len (omega arith) in
-      chunk-whole put o (omega arith) (rw length-patch room) put-mark (rw l small) (rw l fits) ∙ rw (l, put-crc sum)
+      chunk-whole put o (omega arith) (rw length-patch room) put-mark (rw l small) (rw l fits) (rw (l, length-patch) whole) ∙ rw (l, put-crc sum)
 
   -- the payload behind it stays
   pub payload-put : (n : ℕ) → payloadAt (patch o (chunkHeader len crc) page) o n ≡ payloadAt page o n
@@ -75,7 +75,7 @@ checked-put page o len there small fits =
     let room : o + 8 ≤ length page = omega arith in
     let put = patch o (chunkHeader len sum) page in
     checked-right put o len sum (nextOffset o len)
-    (chunk-put page o len sum room small fits (published-fits (payloadAt page o len)))
+    (chunk-put page o len sum room small fits there (published-fits (payloadAt page o len)))
     (sum-fine put o len sum (rw length-patch there) (ap published (payload-put page o len sum room len)))
 
 -- ---- the page header

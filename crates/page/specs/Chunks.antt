@@ -28,18 +28,19 @@ chunkHeader len crc = bytesOf 2 chunkMagic ++ (bytesOf 2 len ++ bytesOf 4 crc)
 abbrev pub nextOffset : ℕ → ℕ → ℕ
 nextOffset o len = alignUp (o + chunkHeaderSize + len)
 
--- a chunk at o whose header says len: it is too long, passes the page's end, or is one
-abbrev pub chunkOf : ℕ → ℕ → ℕ → Step
-chunkOf o len crc =
+-- a chunk at o whose header says len: it is too long, passes the page's end or the bytes that are there, or is one
+abbrev pub chunkOf : List ℕ → ℕ → ℕ → ℕ → Step
+chunkOf page o len crc =
     cond (ltb maxChunkSize len) Corrupted
-    (cond (ltb pageSize (o + chunkHeaderSize + len)) Corrupted (Chunk len crc (nextOffset o len)))
+    (cond (ltb pageSize (o + chunkHeaderSize + len)) Corrupted
+    (cond (ltb (length page) (o + chunkHeaderSize + len)) Corrupted (Chunk len crc (nextOffset o len))))
 
 -- what the walk finds at o: no room for a header, bytes too few for one, and a wrong mark are the end
 unfoldable pub chunkAt : List ℕ → ℕ → Step
 chunkAt page o =
     cond (ltb pageSize (o + chunkHeaderSize)) End
     (cond (ltb (length page) (o + chunkHeaderSize)) End
-    (cond (eqb (field 2 page o) chunkMagic) (chunkOf o (field 2 page (o + 2)) (field 4 page (o + 4))) End))
+    (cond (eqb (field 2 page o) chunkMagic) (chunkOf page o (field 2 page (o + 2)) (field 4 page (o + 4))) End))
 
 -- the payload of a chunk at o with len bytes
 abbrev pub payloadAt : List ℕ → ℕ → ℕ → List ℕ

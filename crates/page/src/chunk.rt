@@ -127,6 +127,9 @@ pub fn chunk_at(page: &[u8], at: usize) -> Step
     if PAGE_SIZE < end {
         return Step::Corrupted;
     }
+    if page.len() < end {
+        return Step::Corrupted;
+    }
     Step::Chunk {
         len,
         crc: get32(page, at + 4),

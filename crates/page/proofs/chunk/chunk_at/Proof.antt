@@ -1,8 +1,8 @@
--- Each return is one law on what stands at an offset: past the page, header not there, unmarked, too long, past the end, a chunk.
+-- Each return is one law on what stands at an offset: past the page, header not there, unmarked, too long, past the page's end or the bytes there, a chunk.
 use Prim.Native.Nat.{_+_, _≤_, _<_}
 use mathlib.Core.Path.{sym, _∙_}
 use native.Mathlib.Omega.{arith}
-use Rattle.page.proofs.ChunkLaws.{chunk-past, chunk-short, chunk-unmarked, chunk-long, chunk-over, chunk-whole}
+use Rattle.page.proofs.ChunkLaws.{chunk-past, chunk-short, chunk-unmarked, chunk-long, chunk-over, chunk-missing, chunk-whole}
 use borrow.Author.Needs.{needs}
 use Rattle.page.proofs.chunk.chunk_at.Statement.{statement}
 use Rattle.page.proofs.chunk.chunk_at.Tie as tie
@@ -67,6 +67,17 @@ returns-5 c =
     let len = c .before .before .get162 .ensures in
     sym (chunk-over (a .page .now) (a .at) room (at-mark .before .before .if2 .left) mark (rw len at (c .before .if4 .left)) (rw len at (c .if5 .taken)))
 
+returns-6 : tie.Need-returns-6
+returns-6 c =
+    let at-mark = c .before .before .before .before in
+    let start = at-mark .before .before .before .before .before in
+    let a = start .args in
+    let room : a .at + 8 ≤ 4096 = omega arith in
+    let mark = sym (at-mark .before .get16 .ensures) ∙ at-mark .if3 .left in
+    let len = c .before .before .before .get162 .ensures in
+    sym (chunk-missing (a .page .now) (a .at) room (at-mark .before .before .if2 .left) mark (rw len at (c .before .before .if4 .left))
+    (rw len at (c .before .if5 .left)) (rw len at (c .if6 .taken)))
+
 add-get32 : tie.Need-add-get32
 add-get32 c = search needs
 
@@ -79,17 +90,18 @@ cast-align-up c = search needs
 align-up-requires : tie.Need-align-up-requires
 align-up-requires c κs = search needs
 
-returns-6 : tie.Need-returns-6
-returns-6 c =
+returns-7 : tie.Need-returns-7
+returns-7 c =
     let at-end = c .before .before in
-    let at-mark = at-end .before .before .before in
+    let at-mark = at-end .before .before .before .before in
     let start = at-mark .before .before .before .before .before in
     let a = start .args in
     let room : a .at + 8 ≤ 4096 = omega arith in
     let mark = sym (at-mark .before .get16 .ensures) ∙ at-mark .if3 .left in
-    let len = at-end .before .before .get162 .ensures in
+    let len = at-end .before .before .before .get162 .ensures in
     rw (c .align-up .ensures, c .before .get32 .ensures, len)
-    (sym (chunk-whole (a .page .now) (a .at) room (at-mark .before .before .if2 .left) mark (rw len at (at-end .before .if4 .left)) (rw len at (at-end .if5 .left))))
+    (sym (chunk-whole (a .page .now) (a .at) room (at-mark .before .before .if2 .left) mark (rw len at (at-end .before .before .if4 .left))
+    (rw len at (at-end .before .if5 .left)) (rw len at (at-end .if6 .left))))
 
 pub chunk-at-spec : {M : Type 1} → statement M
 chunk-at-spec =
@@ -108,8 +120,9 @@ chunk-at-spec =
     add-end
     add-end-2
     returns-5
+    returns-6
     add-get32
     get32-requires
     cast-align-up
     align-up-requires
-    returns-6)
+    returns-7)
