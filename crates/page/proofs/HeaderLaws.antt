@@ -2,13 +2,14 @@
 use mathlib.Core.Path.{_≡_}
 use mathlib.Core.Bool.{true, false, _&&_, and-false}
 use mathlib.Core.List.{List}
-use Prim.Native.Nat.{ℕ, _+_, _≤_}
+use mathlib.Core.Logic.{⊎-elim}
+use Prim.Native.Nat.{ℕ, _+_, _-_, _≤_, _<_, min}
 use native.Mathlib.Omega.{arith}
-use lib.Dec.{eqb}
+use lib.Dec.{eqb, leb}
 use lib.ListN.{length, take, length-take, length-drop}
-use borrow.Author.Tests.{eqb-true, eq-eqb, ne-eqb, le-leb}
+use borrow.Author.Tests.{eqb-true, eq-eqb, ne-eqb, le-leb, lt-leb}
 use Rattle.types.specs.Build.{pageHeaderSize}
-use Rattle.types.proofs.TestLaws.{both-true}
+use Rattle.types.proofs.TestLaws.{both-true, le-or-lt}
 use Rattle.crc.specs.Published.{published}
 use Rattle.slices.specs.Fields.{field}
 use Rattle.page.specs.Headers.{headerOf, headerThere, pageHeaderFine}
@@ -39,6 +40,19 @@ module _ (page : List ℕ) (magic p h : ℕ) where
   pub header-sum : pageHeaderSize + h ≤ length page → field 4 page 0 ≡ magic → field 4 page 4 ≡ p
       → pageHeaderFine page magic p h ≡ eqb (field 4 page 8) (published (headerOf page h))
   header-sum room e f = header-known (rw (header-there room, eq-eqb (field 4 page 0) magic e, eq-eqb (field 4 page 4) p f))
+
+-- a header that is not all there is not fine
+pub header-short : (page : List ℕ) (magic p h : ℕ) → length page < pageHeaderSize + h → pageHeaderFine page magic p h ≡ false
+header-short page magic p h short = header-unknown page magic p h (rw not-there)
+  where
+    not-there : headerThere page h ≡ false
+    not-there =
+        ⊎-elim
+        (λ (room : 12 ≤ length page).
+        let few : length (headerOf page h) ≡ h → ⊥ = λ e. let k : min h (length page - 12) ≡ h = simp (length-take, length-drop) at e in omega arith in
+        rw (ne-eqb (length (headerOf page h)) h few, and-false (leb 12 (length page))))
+        (λ (none : length page < 12). rw (lt-leb 12 (length page) none))
+        (le-or-lt 12 (length page))
 
 -- a fine header, taken apart
 pub header-found : (page : List ℕ) (magic p h : ℕ) → pageHeaderFine page magic p h ≡ true

@@ -5,6 +5,7 @@ pub mod HeaderLaws
 pub mod LaidLaws
 pub mod OntoLaws
 pub mod PutLaws
+pub mod ShortLaws
 pub mod SumLaws
 pub mod WalkLaws
 pub mod WalkTableLaws
