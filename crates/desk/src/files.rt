@@ -1,10 +1,15 @@
 // Files, read one behind the other into one buffer.
 use crate::say::text;
 use crate::say::wrong;
+use libc::STDIN_FILENO;
 use libc::read;
+use slices::part::part_of;
 
 pub enum Filled {
     To(usize),
+    // The file has more bytes than there is room for. The caller says how many it takes.
+    More,
+    // The file could not be read, which was said.
     Bad,
 }
 
@@ -28,22 +33,44 @@ fn fill(program: &[u8], fd: i32, name: &[u8], room: &mut [u8], at: usize) -> Fil
         return Filled::Bad;
     }
     if 0 < rest {
-        wrong(program, b"more bytes than there is room for", name);
-        return Filled::Bad;
+        return Filled::More;
     }
     Filled::To(at + n)
+}
+
+fn is_dash(name: &[u8]) -> bool {
+    if name.len() == 1 {
+        return name[0] == b'-';
+    }
+    false
+}
+
+// The same for the file of a name; - is standard input.
+fn read_named(program: &[u8], name: &[u8], room: &mut [u8], at: usize) -> Filled {
+    if is_dash(name) {
+        return fill(program, STDIN_FILENO, b"standard input", room, at);
+    }
+    let fd = os::open_read(name);
+    if fd < 0 {
+        fail(program, name);
+        return Filled::Bad;
+    }
+    let filled = fill(program, fd, name, room, at);
+    libc::close(fd);
+    filled
 }
 
 // The same for the file that argument i names.
 pub fn read_file(program: &[u8], i: usize, room: &mut [u8], at: usize) -> Filled {
     let mut name = io::buffer();
     let n = os::arg(i, &mut name);
-    let fd = os::open_read(&name[..n]);
-    if fd < 0 {
-        fail(program, &name[..n]);
+    if os::errno() != 0 {
+        wrong(
+            program,
+            b"a name is longer than 4096 bytes",
+            part_of(&name, 0, 60),
+        );
         return Filled::Bad;
     }
-    let filled = fill(program, fd, &name[..n], room, at);
-    libc::close(fd);
-    filled
+    read_named(program, &name[..n], room, at)
 }

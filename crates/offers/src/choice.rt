@@ -10,6 +10,9 @@ pub(crate) struct Choice {
     pub fine: bool,
     pub helps: bool,
     pub only_count: bool,
+    // Whether each line names the run that decided, and whether UTF-8 is printed as it is.
+    pub why: bool,
+    pub utf8: bool,
     // For each bound the option that its key follows, 0 where there is none, and whether the key itself is taken in.
     pub lower_at: usize,
     pub from: bool,
@@ -38,6 +41,8 @@ fn at_first() -> Choice {
         fine: true,
         helps: false,
         only_count: false,
+        why: false,
+        utf8: false,
         lower_at: 0,
         from: false,
         upper_at: 0,
@@ -103,7 +108,15 @@ impl Choice {
             self.only_count = true;
             return self;
         }
-        if same(word, b"--help") {
+        if same(word, b"--why") {
+            self.why = true;
+            return self;
+        }
+        if same(word, b"--utf8") {
+            self.utf8 = true;
+            return self;
+        }
+        if same(word, b"--help") | same(word, b"-h") {
             self.helps = true;
             return self;
         }
@@ -126,12 +139,12 @@ impl Choice {
         self.with_flag(word)
     }
 
-    // With argument i, which is no key.
+    // With argument i, which is no key. A single - is a file's name.
     fn with_word(self, i: usize, word: &[u8]) -> Choice {
         if word.len() < 2 {
             return self.with_file(i, word);
         }
-        if (word[0] == b'-') & (word[1] == b'-') {
+        if word[0] == b'-' {
             return self.with_option(i, word);
         }
         self.with_file(i, word)

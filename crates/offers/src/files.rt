@@ -2,10 +2,20 @@
 use crate::choice::Choice;
 use desk::files::Filled;
 use desk::files::read_file;
+use desk::say;
 use types::config::FILE_COUNT;
 
 fn read_run(i: usize, room: &mut [u8], at: usize) -> Filled {
-    read_file(b"offers", i, room, at)
+    let most = room.len();
+    let filled = read_file(b"offers", i, room, at);
+    if let Filled::More = filled {
+        say::text(b"offers: more than ");
+        say::number(most);
+        say::text(b" bytes in all runs: ");
+        say::argument(i);
+        say::text(b"\n");
+    }
+    filled
 }
 
 // Reads every run that was named, and answers whether all could be read.

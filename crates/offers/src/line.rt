@@ -1,4 +1,9 @@
-// A line of the list. Bytes outside printable ASCII, and the backslash, are spelled, so no two entries have the same line.
+// A line of the list. Bytes outside printable ASCII, and the backslash, are spelled, so no two entries have the same line. Where it is
+// asked for, UTF-8 is printed as it is.
+use slices::part::part_of;
+use types::num::less;
+use utf8::character::length_of;
+
 const SPACE: u8 = 32;
 
 const LAST: u8 = 126;
@@ -35,18 +40,40 @@ fn put_escaped(out: &mut [u8], at: usize, byte: u8) -> usize {
     put_spelled(out, at, byte)
 }
 
-fn put_all(out: &mut [u8], from: usize, bytes: &[u8]) -> usize {
+// How many bytes from here on are printed as they are, where so many were left.
+fn plain_at(rest: &[u8], left: usize, utf8: bool) -> usize {
+    if 0 < left {
+        return left;
+    }
+    if utf8 {
+        return length_of(rest);
+    }
+    0
+}
+
+fn put_byte(out: &mut [u8], at: usize, byte: u8, plain: usize) -> usize {
+    if 0 < plain {
+        return put(out, at, byte);
+    }
+    put_escaped(out, at, byte)
+}
+
+// Puts bytes as they are shown, from an index on, and answers the next index.
+pub(crate) fn put_all(out: &mut [u8], from: usize, bytes: &[u8], utf8: bool) -> usize {
     let mut at = from;
+    let mut left = 0;
     for i in 0..bytes.len() {
-        at = put_escaped(out, at, bytes[i]);
+        let plain = plain_at(part_of(bytes, i, 4), left, utf8);
+        at = put_byte(out, at, bytes[i], plain);
+        left = less(plain, 1);
     }
     at
 }
 
-// The line of an entry, at the buffer's start: how long it is.
-pub(crate) fn line_of(key: &[u8], value: &[u8], out: &mut [u8]) -> usize {
-    let a = put_all(out, 0, key);
+// An entry and what ends it, at the buffer's start: how long that is.
+pub(crate) fn line_of(key: &[u8], value: &[u8], utf8: bool, last: u8, out: &mut [u8]) -> usize {
+    let a = put_all(out, 0, key, utf8);
     let b = put(out, a, b'\t');
-    let c = put_all(out, b, value);
-    put(out, c, b'\n')
+    let c = put_all(out, b, value, utf8);
+    put(out, c, last)
 }

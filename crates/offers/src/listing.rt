@@ -3,19 +3,21 @@ use crate::choice::Choice;
 use crate::keys::Key;
 use crate::keys::key_after;
 use crate::line::line_of;
-use crate::places::first_bad;
+use crate::line::put_all;
+use crate::places::Spot;
+use crate::places::decider;
 use crate::places::first_ends;
-use crate::places::is_bad;
 use crate::places::last_end;
-use crate::places::run_of;
-use crate::places::stops_search;
+use crate::places::next_spot;
+use crate::places::start_spot;
 use cursor::answers::NextAnswer;
 use cursor::place::Cursor;
-use cursor::place::Place;
 use desk::say;
+use desk::say::number_on;
+use desk::say::text_on;
 use libc::STDOUT_FILENO;
-use run::bound::Bound;
 use script::space::entry_space;
+use script::space::line_space;
 use slices::part::part_of;
 use types::answers::Outcome;
 use types::config::FILE_COUNT;
@@ -23,60 +25,66 @@ use types::config::MAX_KEY_SIZE;
 use types::config::MAX_VALUE_SIZE;
 use types::refusal::Refusal;
 
-fn say_refusal(why: Refusal) {
-    say::refusal(b"offers", why);
+fn say_spot(c: Choice, spot: Spot) {
+    let names = c.names;
+    let i = spot.run;
+    if FILE_COUNT <= i {
+        return;
+    }
+    say::text(b" in ");
+    say::argument(names[i]);
+    say::text(b" at ");
+    say::number(spot.at);
 }
 
-fn say_place(c: Choice, i: usize, at: usize) {
+// The name of a run, shown as keys are.
+fn print_name(c: Choice, i: usize) {
     let mut name = io::buffer();
+    let mut shown = line_space();
     let names = c.names;
     if FILE_COUNT <= i {
         return;
     }
     let n = os::arg(names[i], &mut name);
-    say::text(b" in ");
-    say::text(&name[..n]);
-    say::text(b" at ");
-    say::number(at);
+    let m = put_all(&mut shown, 0, &name[..n], c.utf8);
+    text_on(STDOUT_FILENO, part_of(&shown, 0, m));
 }
 
-// A refusal on the way to the first entry.
-fn say_start_refused(c: Choice, runs: &[u8], ends: &[usize], lower: &[u8], why: Refusal) {
-    let bound = c.lower();
-    say_refusal(why);
-    for i in 0..ends.len() {
-        let run = run_of(runs, ends, i);
-        if stops_search(run, bound, lower) {
-            say_place(c, i, first_bad(run));
-            say::refused();
-            return;
-        }
+fn print_spot(c: Choice, spot: Spot) {
+    let i = spot.run;
+    if FILE_COUNT <= i {
+        return;
     }
-    say::refused();
+    text_on(STDOUT_FILENO, b" in ");
+    print_name(c, i);
+    text_on(STDOUT_FILENO, b" at ");
+    number_on(STDOUT_FILENO, spot.at);
 }
 
-// A refusal on the way from one entry to the next.
-fn say_next_refused(c: Choice, runs: &[u8], ends: &[usize], cursor: Cursor, why: Refusal) {
-    let places = cursor.places;
-    say_refusal(why);
-    for i in 0..FILE_COUNT {
-        let p = places[i];
-        let place = p.place;
-        if let Place::At(at) = place {
-            if is_bad(run_of(runs, ends, i), at) {
-                say_place(c, i, at);
-                say::refused();
-                return;
-            }
-        }
-    }
+// Ends a list that was refused.
+fn say_refused(c: Choice, why: Refusal, spot: Spot) {
+    say::refusal(b"offers", why);
+    say_spot(c, spot);
     say::refused();
+    say::list_refused(why);
+    print_spot(c, spot);
+    text_on(STDOUT_FILENO, b"\n");
 }
 
-fn print(key: &[u8], value: &[u8]) -> bool {
+// A line, but for the name of the run that decided and the line's end where they follow.
+fn print_entry(key: &[u8], value: &[u8], utf8: bool, last: u8) -> bool {
     let mut out = entry_space();
-    let n = line_of(key, value, &mut out);
+    let n = line_of(key, value, utf8, last, &mut out);
     io::write_all(STDOUT_FILENO, part_of(&out, 0, n))
+}
+
+fn print(c: Choice, key: &[u8], value: &[u8], decided: usize) -> bool {
+    if !c.why {
+        return print_entry(key, value, c.utf8, b'\n');
+    }
+    print_entry(key, value, c.utf8, b'\t');
+    print_name(c, decided);
+    io::write_all(STDOUT_FILENO, b"\n")
 }
 
 enum Way {
@@ -91,15 +99,22 @@ struct Turn {
 }
 
 // Prints an entry, unless they are only counted.
-fn show(c: Choice, key: &[u8], value: &[u8]) -> Way {
+fn show(c: Choice, key: &[u8], value: &[u8], decided: usize) -> Way {
     if c.only_count {
         return Way::On;
     }
-    if print(key, value) {
+    if print(c, key, value, decided) {
         return Way::On;
     }
-    os::fail(b"offers: standard output");
+    say::output_failed(b"offers");
     Way::Stop
+}
+
+fn decided_by(c: Choice, runs: &[u8], ends: &[usize], cursor: Cursor, key: &[u8]) -> usize {
+    if c.why {
+        return decider(runs, ends, cursor, key);
+    }
+    FILE_COUNT
 }
 
 // One entry.
@@ -115,12 +130,16 @@ fn turned(c: Choice, runs: &[u8], ends: &[usize], upper: &[u8], cursor: Cursor) 
             way: Way::End,
             cursor: behind,
         },
-        NextAnswer::Entry { key_len, value_len } => Turn {
-            way: show(c, part_of(&key, 0, key_len), part_of(&value, 0, value_len)),
-            cursor: behind,
-        },
+        NextAnswer::Entry { key_len, value_len } => {
+            let found = part_of(&key, 0, key_len);
+            let decided = decided_by(c, runs, ends, cursor, found);
+            Turn {
+                way: show(c, found, part_of(&value, 0, value_len), decided),
+                cursor: behind,
+            }
+        }
         NextAnswer::Refused(why) => {
-            say_next_refused(c, runs, ends, behind, why);
+            say_refused(c, why, next_spot(runs, ends, behind));
             Turn {
                 way: Way::Stop,
                 cursor: behind,
@@ -130,9 +149,12 @@ fn turned(c: Choice, runs: &[u8], ends: &[usize], upper: &[u8], cursor: Cursor) 
 }
 
 fn say_count(c: Choice, count: usize) {
-    if c.only_count {
-        io::print_decimal(STDOUT_FILENO, count as u64);
-        io::write_all(STDOUT_FILENO, b"\n");
+    if !c.only_count {
+        return;
+    }
+    number_on(STDOUT_FILENO, count);
+    if !io::write_all(STDOUT_FILENO, b"\n") {
+        say::output_failed(b"offers");
     }
 }
 
@@ -161,18 +183,19 @@ fn list_between(c: Choice, runs: &[u8], ends: &[usize], lower: &[u8], upper: &[u
     let start = made.cursor;
     match answer {
         Outcome::Done => list_from(c, runs, ends, upper, start),
-        Outcome::Refused(why) => say_start_refused(c, runs, ends, lower, why),
+        Outcome::Refused(why) => say_refused(c, why, start_spot(runs, ends, bound, lower)),
     }
 }
 
-pub(crate) fn list(c: Choice, runs: &[u8], ends: [usize; FILE_COUNT]) {
+// Lists, or says what is wrong with a bound and answers false.
+pub(crate) fn list(c: Choice, runs: &[u8], ends: [usize; FILE_COUNT]) -> bool {
     let mut lower = io::buffer();
     let mut upper = io::buffer();
     let Key::Bytes(m) = key_after(c.lower_at, &mut lower) else {
-        return;
+        return false;
     };
     let Key::Bytes(n) = key_after(c.upper_at, &mut upper) else {
-        return;
+        return false;
     };
     let in_use = first_ends(&ends, c.files);
     list_between(
@@ -182,4 +205,5 @@ pub(crate) fn list(c: Choice, runs: &[u8], ends: [usize; FILE_COUNT]) {
         part_of(&lower, 0, m),
         part_of(&upper, 0, n),
     );
+    true
 }

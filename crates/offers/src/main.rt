@@ -9,15 +9,18 @@ mod places;
 
 use choice::Choice;
 use choice::chosen;
+use desk::say;
 use script::space::all_runs_space;
 use types::config::FILE_COUNT;
 
-fn list(c: Choice) {
+// Lists, or says why not and answers false.
+fn list(c: Choice) -> bool {
     let mut runs = all_runs_space();
     let mut ends = [0; FILE_COUNT];
     if files::read_all(c, &mut runs, &mut ends) {
-        listing::list(c, &runs, ends);
+        return listing::list(c, &runs, ends);
     }
+    false
 }
 
 fn main() {
@@ -31,6 +34,9 @@ fn main() {
         return;
     }
     if c.fine {
-        list(c);
+        if list(c) {
+            return;
+        }
     }
+    say::list_failed();
 }

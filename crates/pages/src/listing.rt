@@ -1,13 +1,24 @@
-// A line for each page: what a new reader finds there, which is what the walk over the page finds (`found-is-walk`).
+// A line for each page: what a new reader finds there.
+use crate::chunks::say_chunks;
+use crate::header;
+use crate::header::say_higher;
+use crate::line::hex;
+use crate::line::line_end;
+use crate::line::number;
+use crate::line::text;
+use crate::walk::say_walk;
+use crate::walk::walked;
 use desk::say;
+use desk::say::number_on;
+use desk::say::text_on;
 use flash::geometry::page_of;
+use libc::STDERR_FILENO;
 use libc::STDOUT_FILENO;
-use page::chunk::Step;
-use page::chunk::checked_at;
 use page::header::check_header;
 use page::header::page_header_fine;
 use page::walk::all_erased;
-use slices::part::part_of;
+use slices::field::get32;
+use types::config::ALIGN;
 use types::config::ERASE_VALUE;
 use types::config::MAX_HEADER_SIZE;
 use types::config::MAX_PAGE_COUNT;
@@ -15,89 +26,20 @@ use types::config::PAGE_HEADER_SIZE;
 use types::config::PAGE_SIZE;
 use types::num::least;
 use types::page_id::PageID;
+use types::refusal::Refusal;
 use types::refusal::Verdict;
 
-// More steps than a page has chunks.
-const STEPS: usize = 512;
-
-struct Walk {
-    chunks: usize,
-    bytes: usize,
-    // Where it ends, or is refused.
-    at: usize,
-    refused: bool,
-}
-
-fn walked(page: &[u8], start: usize) -> Walk {
-    let mut chunks = 0;
-    let mut bytes = 0;
-    let mut at = start;
-    for _ in 0..STEPS {
-        match checked_at(page, at) {
-            Step::End => {
-                return Walk {
-                    chunks,
-                    bytes,
-                    at,
-                    refused: false,
-                };
-            }
-            Step::Corrupted => {
-                return Walk {
-                    chunks,
-                    bytes,
-                    at,
-                    refused: true,
-                };
-            }
-            Step::Chunk { len, crc: _, next } => {
-                chunks += 1;
-                bytes += least(len, PAGE_SIZE);
-                at = next;
-            }
-        }
+fn say_good(page: &[u8], h: usize, chunks: bool) -> bool {
+    let start = PAGE_HEADER_SIZE + least(h, MAX_HEADER_SIZE);
+    say_higher(page, h);
+    let said = say_walk(page, walked(page, start));
+    if said & chunks {
+        return say_chunks(page, start);
     }
-    Walk {
-        chunks,
-        bytes,
-        at,
-        refused: false,
-    }
+    said
 }
 
-fn text(bytes: &[u8]) {
-    io::write_all(STDOUT_FILENO, bytes);
-}
-
-fn number(n: usize) {
-    io::print_decimal(STDOUT_FILENO, n as u64);
-}
-
-// The end of a line, and whether it could be written.
-fn line_end(bytes: &[u8]) -> bool {
-    io::write_all(STDOUT_FILENO, bytes)
-}
-
-fn say_walk(page: &[u8], w: Walk) -> bool {
-    text(b"chunks ");
-    number(w.chunks);
-    text(b", bytes ");
-    number(w.bytes);
-    text(b", ");
-    if w.refused {
-        text(b"Corrupted (1) at ");
-        number(w.at);
-        return line_end(b"\n");
-    }
-    text(b"end at ");
-    number(w.at);
-    if all_erased(part_of(page, w.at, PAGE_SIZE), ERASE_VALUE) {
-        return line_end(b"\n");
-    }
-    line_end(b", not erased behind it\n")
-}
-
-fn say_page(flash: &[u8], magic: u32, id: PageID, h: usize) -> bool {
+fn say_page(flash: &[u8], magic: u32, id: PageID, h: usize, chunks: bool) -> bool {
     let page = page_of(flash, id);
     text(b"page ");
     number(id.index());
@@ -106,32 +48,117 @@ fn say_page(flash: &[u8], magic: u32, id: PageID, h: usize) -> bool {
         return line_end(b"erased\n");
     }
     if !page_header_fine(page, magic, id, h) {
-        return line_end(b"Corrupted (1) in its header\n");
+        return header::say_refused(page, magic, id, h);
     }
-    say_walk(
-        page,
-        walked(page, PAGE_HEADER_SIZE + least(h, MAX_HEADER_SIZE)),
-    )
+    say_good(page, h, chunks)
 }
 
-fn say_page_at(flash: &[u8], magic: u32, i: usize, h: usize) -> bool {
+fn say_page_at(flash: &[u8], magic: u32, i: usize, h: usize, chunks: bool) -> bool {
     if i < MAX_PAGE_COUNT {
-        return say_page(flash, magic, PageID(i as u16), h);
+        return say_page(flash, magic, PageID(i as u16), h, chunks);
     }
     true
 }
 
-pub(crate) fn list(flash: &[u8], magic: u32, h: usize) {
+// The magics on the pages so far.
+struct Magics {
+    // Whether a page is not erased, and the magic of the first such one.
+    any: bool,
+    first: u32,
+    // Whether one has another magic than the first, or the magic that is asked for.
+    mixed: bool,
+}
+
+fn with_page(m: Magics, page: &[u8], asked: u32) -> Magics {
+    let there = get32(page, 0);
+    if all_erased(page, ERASE_VALUE) {
+        return m;
+    }
+    if !m.any {
+        return Magics {
+            any: true,
+            first: there,
+            mixed: there == asked,
+        };
+    }
+    Magics {
+        any: true,
+        first: m.first,
+        mixed: m.mixed | (there != m.first),
+    }
+}
+
+fn with_page_at(m: Magics, flash: &[u8], asked: u32, i: usize) -> Magics {
+    if i < MAX_PAGE_COUNT {
+        return with_page(m, page_of(flash, PageID(i as u16)), asked);
+    }
+    m
+}
+
+fn magics_of(flash: &[u8], asked: u32, count: usize) -> Magics {
+    let mut m = Magics {
+        any: false,
+        first: 0,
+        mixed: false,
+    };
+    for i in 0..count {
+        m = with_page_at(m, flash, asked, i);
+    }
+    m
+}
+
+// One line in place of all, where every page has one other magic: it is more likely that the magic was typed wrong.
+fn say_other(magic: u32, there: u32) -> bool {
+    text(b"no page has the magic ");
+    hex(magic);
+    text(b": that of every page which is not erased is ");
+    hex(there);
+    line_end(b"\n")
+}
+
+fn say_each(flash: &[u8], magic: u32, h: usize, chunks: bool, count: usize) -> bool {
+    for i in 0..count {
+        if !say_page_at(flash, magic, i, h, chunks) {
+            return false;
+        }
+    }
+    true
+}
+
+fn say_pages(flash: &[u8], magic: u32, h: usize, chunks: bool) -> bool {
+    let count = least(flash.len() / PAGE_SIZE, MAX_PAGE_COUNT);
+    let m = magics_of(flash, magic, count);
+    if m.any & !m.mixed {
+        return say_other(magic, m.first);
+    }
+    say_each(flash, magic, h, chunks, count)
+}
+
+// What is wrong with such a length of the higher header.
+fn length_on(fd: i32, h: usize) {
+    text_on(fd, b": H is ");
+    number_on(fd, h);
+    text_on(fd, b", and not a multiple of ");
+    number_on(fd, ALIGN);
+    text_on(fd, b" up to ");
+    number_on(fd, MAX_HEADER_SIZE);
+}
+
+fn bad_header(why: Refusal, h: usize) {
+    say::refusal(b"pages", why);
+    length_on(STDERR_FILENO, h);
+    say::refused();
+    say::list_refused(why);
+    length_on(STDOUT_FILENO, h);
+    text(b"\n");
+}
+
+pub(crate) fn list(flash: &[u8], magic: u32, h: usize, chunks: bool) {
     if let Verdict::Refused(why) = check_header(h) {
-        say::refusal(b"pages", why);
-        say::refused();
+        bad_header(why, h);
         return;
     }
-    let count = least(flash.len() / PAGE_SIZE, MAX_PAGE_COUNT);
-    for i in 0..count {
-        if !say_page_at(flash, magic, i, h) {
-            os::fail(b"pages: standard output");
-            return;
-        }
+    if !say_pages(flash, magic, h, chunks) {
+        say::output_failed(b"pages");
     }
 }

@@ -52,7 +52,7 @@ fn read_chunk(r: PageReader, flash: &[u8]) -> Step {
     match answer {
         Count::Bytes(n) => {
             if !io::write_all(STDOUT_FILENO, part_of(&space, 0, n)) {
-                os::fail(b"pages: standard output");
+                say::output_failed(b"pages");
                 return Step {
                     goes_on: false,
                     reader: behind,

@@ -34,9 +34,6 @@ read-run-requires c κs = search needs
 enum-known-end : tie.Need-enum-known-end Inv-loop μ-loop
 enum-known-end c = search needs
 
-enum-told : tie.Need-enum-told Inv-loop μ-loop
-enum-told c = search needs
-
 same-length-2 : tie.Need-same-length-2 Inv-loop μ-loop
 same-length-2 c = omega arith
 
@@ -77,7 +74,6 @@ read-all-spec =
     array-read-read-run
     read-run-requires
     enum-known-end
-    enum-told
     same-length-2
     returns-2
     mul-ends

@@ -1,26 +1,35 @@
 -- `offers::line::put_all` is safe and ends. Assumes nothing.
 use mathlib.Core.Path.{_≡_}
+use lib.ListN.{length}
 use Prim.Native.Nat.{_-_, _≤_}
 use native.Mathlib.Omega.{arith}
 use borrow.Author.Needs.{needs}
-use lib.ListN.{length}
 use Rattle.offers.proofs.line.put_all.Statement.{statement}
 use Rattle.offers.proofs.line.put_all.Tie as tie
 
 abbrev Inv-loop : tie.InvT-loop
-Inv-loop out₀ from bytes at₀ i₀ i-end out at i = (i ≤ i-end) × (i-end ≡ length bytes) × (length out ≡ length out₀)
+Inv-loop out₀ from bytes utf8 at₀ left₀ i₀ i-end out at left i = (i ≤ i-end) × (i-end ≡ length bytes) × (length out ≡ length out₀)
 
 abbrev μ-loop : tie.MeasureT-loop
-μ-loop out₀ from bytes at₀ i₀ i-end out at i = i-end - i
+μ-loop out₀ from bytes utf8 at₀ left₀ i₀ i-end out at left i = i-end - i
 
 loop-holds : tie.Need-loop-holds Inv-loop μ-loop
 loop-holds c = omega arith
 
-shared-slice-read-put-escaped : tie.Need-shared-slice-read-put-escaped Inv-loop μ-loop
-shared-slice-read-put-escaped c = omega arith
+part-of-requires : tie.Need-part-of-requires Inv-loop μ-loop
+part-of-requires c κs = search needs
 
-put-escaped-requires : tie.Need-put-escaped-requires Inv-loop μ-loop
-put-escaped-requires c κs = search needs
+plain-at-requires : tie.Need-plain-at-requires Inv-loop μ-loop
+plain-at-requires c κs = search needs
+
+shared-slice-read-put-byte : tie.Need-shared-slice-read-put-byte Inv-loop μ-loop
+shared-slice-read-put-byte c = omega arith
+
+put-byte-requires : tie.Need-put-byte-requires Inv-loop μ-loop
+put-byte-requires c κs = search needs
+
+less-requires : tie.Need-less-requires Inv-loop μ-loop
+less-requires c κs = search needs
 
 add-i : tie.Need-add-i Inv-loop μ-loop
 add-i c = omega arith
@@ -44,8 +53,11 @@ put-all-spec =
     Inv-loop
     μ-loop
     loop-holds
-    shared-slice-read-put-escaped
-    put-escaped-requires
+    part-of-requires
+    plain-at-requires
+    shared-slice-read-put-byte
+    put-byte-requires
+    less-requires
     add-i
     loop-less
     loop-again

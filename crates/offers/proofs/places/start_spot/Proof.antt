@@ -1,21 +1,15 @@
--- `offers::listing::say_start_refused` is safe and ends. Assumes nothing.
+-- `offers::places::start_spot` is safe and ends. Assumes nothing.
 use Prim.Native.Nat.{_-_, _≤_}
 use native.Mathlib.Omega.{arith}
 use borrow.Author.Needs.{needs}
-use Rattle.offers.proofs.listing.say_start_refused.Statement.{statement}
-use Rattle.offers.proofs.listing.say_start_refused.Tie as tie
+use Rattle.offers.proofs.places.start_spot.Statement.{statement}
+use Rattle.offers.proofs.places.start_spot.Tie as tie
 
 abbrev Inv-loop : tie.InvT-loop
-Inv-loop c runs ends lower bound i₀ i-end i = i ≤ i-end
+Inv-loop runs ends bound lower i₀ i-end i = i ≤ i-end
 
 abbrev μ-loop : tie.MeasureT-loop
-μ-loop c runs ends lower bound i₀ i-end i = i-end - i
-
-lower-requires : tie.Need-lower-requires Inv-loop μ-loop
-lower-requires c κs = search needs
-
-say-refusal-requires : tie.Need-say-refusal-requires Inv-loop μ-loop
-say-refusal-requires c κs = search needs
+μ-loop runs ends bound lower i₀ i-end i = i-end - i
 
 loop-holds : tie.Need-loop-holds Inv-loop μ-loop
 loop-holds c = omega arith
@@ -29,12 +23,6 @@ stops-search-requires c κs = search needs
 first-bad-requires : tie.Need-first-bad-requires Inv-loop μ-loop
 first-bad-requires c κs = search needs
 
-say-place-requires : tie.Need-say-place-requires Inv-loop μ-loop
-say-place-requires c κs = search needs
-
-refused-requires : tie.Need-refused-requires Inv-loop μ-loop
-refused-requires c κs = search needs
-
 returns : tie.Need-returns Inv-loop μ-loop
 returns c = search needs
 
@@ -47,29 +35,25 @@ loop-less c = omega arith
 loop-again : tie.Need-loop-again Inv-loop μ-loop
 loop-again c = omega arith
 
-refused-requires-2 : tie.Need-refused-requires-2 Inv-loop μ-loop
-refused-requires-2 c κs = search needs
+nowhere-requires : tie.Need-nowhere-requires Inv-loop μ-loop
+nowhere-requires c κs = search needs
 
 returns-2 : tie.Need-returns-2 Inv-loop μ-loop
 returns-2 c = search needs
 
-pub say-start-refused-spec : {M : Type 1} → statement M
-say-start-refused-spec =
+pub start-spot-spec : {M : Type 1} → statement M
+start-spot-spec =
     tie.close
     (tie.spec
     Inv-loop
     μ-loop
-    lower-requires
-    say-refusal-requires
     loop-holds
     run-of-requires
     stops-search-requires
     first-bad-requires
-    say-place-requires
-    refused-requires
     returns
     add-i
     loop-less
     loop-again
-    refused-requires-2
+    nowhere-requires
     returns-2)

@@ -1,9 +1,9 @@
--- `pages::listing::walked` is safe and ends. Assumes nothing.
+-- `pages::walk::walked` is safe and ends. Assumes nothing.
 use Prim.Native.Nat.{_-_, _*_, _≤_}
 use native.Mathlib.Omega.{arith}
 use borrow.Author.Needs.{needs}
-use Rattle.pages.proofs.listing.walked.Statement.{statement}
-use Rattle.pages.proofs.listing.walked.Tie as tie
+use Rattle.pages.proofs.walk.walked.Statement.{statement}
+use Rattle.pages.proofs.walk.walked.Tie as tie
 
 abbrev Inv-loop : tie.InvT-loop
 Inv-loop page start chunks₀ bytes₀ at₀ counter₀ chunks bytes at counter = (counter ≤ 512) × (chunks ≤ counter) × (bytes ≤ 4096 * counter)

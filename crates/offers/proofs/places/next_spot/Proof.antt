@@ -1,18 +1,15 @@
--- `offers::listing::say_next_refused` is safe and ends. Assumes nothing.
+-- `offers::places::next_spot` is safe and ends. Assumes nothing.
 use Prim.Native.Nat.{_-_, _≤_}
 use native.Mathlib.Omega.{arith}
 use borrow.Author.Needs.{needs}
-use Rattle.offers.proofs.listing.say_next_refused.Statement.{statement}
-use Rattle.offers.proofs.listing.say_next_refused.Tie as tie
+use Rattle.offers.proofs.places.next_spot.Statement.{statement}
+use Rattle.offers.proofs.places.next_spot.Tie as tie
 
 abbrev Inv-loop : tie.InvT-loop
-Inv-loop c runs ends places i₀ i = i ≤ 17
+Inv-loop runs ends places i₀ i = i ≤ 17
 
 abbrev μ-loop : tie.MeasureT-loop
-μ-loop c runs ends places i₀ i = 17 - i
-
-say-refusal-requires : tie.Need-say-refusal-requires Inv-loop μ-loop
-say-refusal-requires c κs = search needs
+μ-loop runs ends places i₀ i = 17 - i
 
 loop-holds : tie.Need-loop-holds Inv-loop μ-loop
 loop-holds c = omega arith
@@ -32,12 +29,6 @@ run-of-requires c κs = search needs
 is-bad-requires : tie.Need-is-bad-requires Inv-loop μ-loop
 is-bad-requires c κs = search needs
 
-say-place-requires : tie.Need-say-place-requires Inv-loop μ-loop
-say-place-requires c κs = search needs
-
-refused-requires : tie.Need-refused-requires Inv-loop μ-loop
-refused-requires c κs = search needs
-
 returns : tie.Need-returns Inv-loop μ-loop
 returns c = search needs
 
@@ -53,31 +44,28 @@ loop-less c = omega arith
 loop-again : tie.Need-loop-again Inv-loop μ-loop
 loop-again c = omega arith
 
-refused-requires-2 : tie.Need-refused-requires-2 Inv-loop μ-loop
-refused-requires-2 c κs = search needs
+nowhere-requires : tie.Need-nowhere-requires Inv-loop μ-loop
+nowhere-requires c κs = search needs
 
 returns-2 : tie.Need-returns-2 Inv-loop μ-loop
 returns-2 c = search needs
 
-pub say-next-refused-spec : {M : Type 1} → statement M
-say-next-refused-spec =
+pub next-spot-spec : {M : Type 1} → statement M
+next-spot-spec =
     tie.close
     (tie.spec
     Inv-loop
     μ-loop
-    say-refusal-requires
     loop-holds
     mul-p
     array-copy-out-p
     enum-known-place
     run-of-requires
     is-bad-requires
-    say-place-requires
-    refused-requires
     returns
     enum-told
     add-i
     loop-less
     loop-again
-    refused-requires-2
+    nowhere-requires
     returns-2)

@@ -1,0 +1,21 @@
+// The parts of a line of the list.
+use digits::hex::hex32;
+use libc::STDOUT_FILENO;
+
+pub(crate) fn text(bytes: &[u8]) {
+    io::write_all(STDOUT_FILENO, bytes);
+}
+
+pub(crate) fn number(n: usize) {
+    io::print_decimal(STDOUT_FILENO, n as u64);
+}
+
+pub(crate) fn hex(n: u32) {
+    let digits = hex32(n);
+    io::write_all(STDOUT_FILENO, &digits);
+}
+
+// The end of a line, and whether it could be written.
+pub(crate) fn line_end(bytes: &[u8]) -> bool {
+    io::write_all(STDOUT_FILENO, bytes)
+}
