@@ -3,6 +3,7 @@ use crate::line::answer;
 use crate::world::new_world;
 use libc::STDERR_FILENO;
 use libc::STDIN_FILENO;
+use libc::read;
 use script::space::flash_space;
 use script::space::runs_space;
 use script::space::script_space;
@@ -41,12 +42,18 @@ fn answer_lines(script: &[u8], flash: &mut [u8], runs: &mut [u8], ends: &mut [us
 
 pub(crate) fn answer_input() {
     let mut space = script_space();
+    let mut more = [0; 1];
     let n = io::read_full(STDIN_FILENO, &mut space);
     if n == space.len() {
         io::write_all(
             STDERR_FILENO,
             b"replay: the script is longer than 1048575 bytes\n",
         );
+        return;
+    }
+    // A script that ends where it could not be read on is no whole script.
+    if read(STDIN_FILENO, &mut more) < 0 {
+        io::write_all(STDERR_FILENO, b"replay: standard input cannot be read\n");
         return;
     }
     let mut flash = flash_space();
