@@ -28,6 +28,7 @@ pub mod OneRun
 pub mod OneScript
 pub mod OneSlices
 pub mod OneTypes
+pub mod OneUtf8
 pub mod OneWriter
 pub mod OutcomeLaws
 pub mod PageCutLaws
