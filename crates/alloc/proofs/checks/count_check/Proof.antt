@@ -1,4 +1,3 @@
--- `alloc::checks::count_check` meets its contract. Assumes nothing.
 use Rattle.alloc.specs.Checks.{countCheck}
 use Rattle.alloc.proofs.checks.count_check.Statement.{statement}
 use Rattle.alloc.proofs.checks.count_check.Tie as tie

@@ -1,4 +1,3 @@
--- `alloc::checks::page_check` meets its contract. Assumes nothing.
 use mathlib.Core.Path.{_≡_, sym, _∙_}
 use mathlib.Core.Bool.{true}
 use Prim.Native.Nat.{_<_, _≤_}

@@ -1,4 +1,3 @@
--- `alloc::checks::wanted_check` meets its contract. Assumes nothing.
 use borrow.Author.Tests.{le-leb, lt-leb}
 use borrow.Author.Needs.{needs}
 use Rattle.alloc.specs.Checks.{stateCheck, wantedCheck}

@@ -1,4 +1,4 @@
--- `alloc::marks::count_from` meets its contract: what is counted so far and what is left make the whole count. Assumes nothing.
+-- `alloc::marks::count_from`: what is counted so far and what is left make the whole count. Assumes nothing.
 use mathlib.Core.Path.{_≡_}
 use Prim.Native.Nat.{_+_, _-_, _*_, _≤_}
 use native.Mathlib.Omega.{arith}

@@ -1,4 +1,3 @@
--- `alloc::marks::first_free` meets its contract. Assumes nothing.
 use mathlib.Core.Path.{sym, _∙_}
 use borrow.Author.Needs.{needs}
 use Rattle.alloc.specs.Marks.{marksOf}

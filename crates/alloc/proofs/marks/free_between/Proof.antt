@@ -1,4 +1,4 @@
--- `alloc::marks::free_between` meets its contract: what is left to look at has the same first free page as the whole. Assumes nothing.
+-- `alloc::marks::free_between`: what is left to look at has the same first free page as the whole. Assumes nothing.
 use mathlib.Core.Path.{_≡_, refl, sym, _∙_}
 use Prim.Native.Nat.{_-_}
 use native.Mathlib.Numerals.{add-one}

@@ -1,4 +1,3 @@
--- `alloc::marks::is_marked` meets its contract. Assumes nothing.
 use mathlib.Core.Path.{sym}
 use borrow.Author.Needs.{needs}
 use Rattle.alloc.proofs.MarksLaws.{mark-is}

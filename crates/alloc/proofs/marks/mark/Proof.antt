@@ -1,4 +1,3 @@
--- `alloc::marks::mark` meets its contract. Assumes nothing.
 use Prim.Native.Nat.{_/_}
 use lib.ListN.{getD}
 use borrow.Author.Needs.{needs}

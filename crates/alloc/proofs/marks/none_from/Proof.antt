@@ -1,4 +1,3 @@
--- `alloc::marks::none_from` meets its contract. Assumes nothing.
 use mathlib.Core.Path.{_≡_, sym}
 use Prim.Native.Nat.{_/_}
 use native.Mathlib.Omega.{arith}

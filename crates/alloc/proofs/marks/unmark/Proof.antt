@@ -1,4 +1,3 @@
--- `alloc::marks::unmark` meets its contract. Assumes nothing.
 use borrow.Author.Needs.{needs}
 use Rattle.alloc.specs.Marks.{freeing}
 use Rattle.alloc.proofs.MarksLaws.{shifted, mark-there}

@@ -1,4 +1,3 @@
--- `alloc::state::freed` meets its contract. Assumes nothing.
 use borrow.Author.Needs.{needs}
 use Rattle.alloc.proofs.state.freed.Statement.{statement}
 use Rattle.alloc.proofs.state.freed.Tie as tie

@@ -1,4 +1,3 @@
--- `alloc::state::in_range` meets its contract. Assumes nothing.
 use borrow.Author.Needs.{needs}
 use Rattle.alloc.specs.State.{inRange}
 use Rattle.alloc.proofs.state.in_range.Statement.{statement}

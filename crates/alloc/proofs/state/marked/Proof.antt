@@ -1,4 +1,3 @@
--- `alloc::state::marked` meets its contract. Assumes nothing.
 use borrow.Author.Needs.{needs}
 use Rattle.alloc.proofs.state.marked.Statement.{statement}
 use Rattle.alloc.proofs.state.marked.Tie as tie

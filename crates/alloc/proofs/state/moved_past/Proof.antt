@@ -1,4 +1,3 @@
--- `alloc::state::moved_past` meets its contract. Assumes nothing.
 use borrow.Author.Needs.{needs}
 use Rattle.alloc.proofs.state.moved_past.Statement.{statement}
 use Rattle.alloc.proofs.state.moved_past.Tie as tie

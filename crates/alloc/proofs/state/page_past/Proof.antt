@@ -1,4 +1,3 @@
--- `alloc::state::page_past` meets its contract. Assumes nothing.
 use mathlib.Core.Path.{sym, ap, _∙_}
 use Prim.Native.Nat.{ℕ, _%_}
 use native.Mathlib.Nat.{mod-self, mod-eq-of-lt}

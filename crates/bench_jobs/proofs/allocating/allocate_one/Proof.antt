@@ -1,4 +1,3 @@
--- `bench_jobs::allocating::allocate_one` meets its contract. Assumes nothing.
 use Rattle.bench_jobs.proofs.AllocationLaws.{allocate-step}
 use borrow.Author.Needs.{needs}
 use Rattle.bench_jobs.proofs.allocating.allocate_one.Statement.{statement}

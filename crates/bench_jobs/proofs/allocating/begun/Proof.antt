@@ -1,4 +1,3 @@
--- `bench_jobs::allocating::begun` meets its contract. Assumes nothing.
 use Rattle.bench_jobs.proofs.AllocationLaws.{begun-by}
 use borrow.Author.Needs.{needs}
 use Rattle.bench_jobs.proofs.allocating.begun.Statement.{statement}

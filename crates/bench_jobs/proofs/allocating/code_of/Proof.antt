@@ -1,4 +1,3 @@
--- `bench_jobs::allocating::code_of` meets its contract. Assumes nothing.
 use Rattle.bench_jobs.proofs.AllocationLaws.{code-refused}
 use borrow.Author.Needs.{needs}
 use Rattle.bench_jobs.proofs.allocating.code_of.Statement.{statement}

@@ -1,4 +1,3 @@
--- `bench_jobs::allocating::free_one` meets its contract. Assumes nothing.
 use Rattle.bench_jobs.proofs.AllocationLaws.{free-step}
 use borrow.Author.Needs.{needs}
 use Rattle.bench_jobs.proofs.allocating.free_one.Statement.{statement}

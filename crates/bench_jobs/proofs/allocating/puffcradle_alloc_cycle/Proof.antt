@@ -1,4 +1,3 @@
--- `bench_jobs::allocating::puffcradle_alloc_cycle` meets its contract. Assumes nothing.
 use Rattle.bench_jobs.proofs.AllocationLaws.{cycle}
 use borrow.Author.Needs.{needs}
 use Rattle.bench_jobs.proofs.allocating.puffcradle_alloc_cycle.Statement.{statement}

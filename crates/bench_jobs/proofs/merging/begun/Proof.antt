@@ -1,4 +1,3 @@
--- `bench_jobs::merging::begun` meets its contract. Assumes nothing.
 use Rattle.bench_jobs.proofs.MergingLaws.{begun-by}
 use borrow.Author.Needs.{needs}
 use Rattle.bench_jobs.proofs.merging.begun.Statement.{statement}

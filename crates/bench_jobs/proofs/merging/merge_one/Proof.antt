@@ -1,4 +1,3 @@
--- `bench_jobs::merging::merge_one` meets its contract. Assumes nothing.
 use denote.Ref.{now}
 use Rattle.bench_jobs.proofs.MergingLaws.{merge-step, merge-bytes}
 use borrow.Author.Needs.{needs}

@@ -1,4 +1,4 @@
--- `bench_jobs::merging::puffcradle_merge` meets its contract: the calls that are left come to the whole. Assumes nothing.
+-- `bench_jobs::merging::puffcradle_merge`: the calls that are left come to the whole. Assumes nothing.
 use mathlib.Core.Path.{_≡_, refl, _∙_}
 use native.Mathlib.Omega.{arith}
 use lib.ListN.{length}

@@ -1,4 +1,3 @@
--- `bench_jobs::merging::summed` meets its contract. Assumes nothing.
 use Rattle.bench_jobs.proofs.MergingLaws.{sum-end, sum-entry, sum-refused}
 use borrow.Author.Needs.{needs}
 use Rattle.bench_jobs.proofs.merging.summed.Statement.{statement}

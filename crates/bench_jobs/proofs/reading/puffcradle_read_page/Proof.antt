@@ -1,4 +1,3 @@
--- `bench_jobs::reading::puffcradle_read_page` meets its contract. Assumes nothing.
 use mathlib.Core.Path.{ap, _∙_}
 use lib.ListN.{length}
 use denote.Ref.{now}

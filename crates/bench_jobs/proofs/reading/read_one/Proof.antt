@@ -1,4 +1,3 @@
--- `bench_jobs::reading::read_one` meets its contract. Assumes nothing.
 use native.Mathlib.Omega.{arith}
 use denote.Ref.{now}
 use Rattle.bench_jobs.proofs.ReadingLaws.{read-some, read-refused, read-put, put-within}

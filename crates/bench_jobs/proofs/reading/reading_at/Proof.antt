@@ -1,4 +1,3 @@
--- `bench_jobs::reading::reading_at` meets its contract. Assumes nothing.
 use mathlib.Core.Path.{sym, ap}
 use Rattle.types.specs.declared.answers.Outcome.{Outcome}
 use Rattle.bench_jobs.specs.Readings.{readingAt}

@@ -1,4 +1,3 @@
--- `bench_jobs::several::closed` meets its contract. Assumes nothing.
 use Rattle.bench_jobs.proofs.SeveralLaws.{closed-by}
 use borrow.Author.Needs.{needs}
 use Rattle.bench_jobs.proofs.several.closed.Statement.{statement}

@@ -1,4 +1,3 @@
--- `bench_jobs::several::count_code` meets its contract. Assumes nothing.
 use Rattle.bench_jobs.proofs.SeveralLaws.{count-refused}
 use borrow.Author.Needs.{needs}
 use Rattle.bench_jobs.proofs.several.count_code.Statement.{statement}

@@ -1,4 +1,3 @@
--- `bench_jobs::several::given_back` meets its contract. Assumes nothing.
 use Rattle.bench_jobs.proofs.SeveralLaws.{given-back-by}
 use borrow.Author.Needs.{needs}
 use Rattle.bench_jobs.proofs.several.given_back.Statement.{statement}

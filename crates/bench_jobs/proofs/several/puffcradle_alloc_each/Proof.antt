@@ -1,4 +1,3 @@
--- `bench_jobs::several::puffcradle_alloc_each` meets its contract. Assumes nothing.
 use Rattle.bench_jobs.proofs.SeveralLaws.{each-by}
 use borrow.Author.Needs.{needs}
 use Rattle.bench_jobs.proofs.several.puffcradle_alloc_each.Statement.{statement}

@@ -1,4 +1,3 @@
--- `bench_jobs::writing::after_header` meets its contract. Assumes nothing.
 use Rattle.bench_jobs.proofs.WritingLaws.{header-stored}
 use borrow.Author.Needs.{needs}
 use Rattle.bench_jobs.proofs.writing.after_header.Statement.{statement}

@@ -1,4 +1,3 @@
--- `bench_jobs::writing::after_write` meets its contract. Assumes nothing.
 use native.Mathlib.Omega.{arith}
 use Rattle.bench_jobs.proofs.WritingLaws.{fits-known, after-took, after-refused}
 use borrow.Author.Needs.{needs}

@@ -1,4 +1,3 @@
--- `bench_jobs::writing::begun` meets its contract. Assumes nothing.
 use denote.Ref.{now}
 use Rattle.bench_jobs.proofs.WritingLaws.{begun-refused, begun-open}
 use borrow.Author.Needs.{needs}

@@ -1,4 +1,3 @@
--- `bench_jobs::writing::finished` meets its contract. Assumes nothing.
 use denote.Ref.{now}
 use Rattle.bench_jobs.proofs.WritingLaws.{finished-refused, finished-done}
 use borrow.Author.Needs.{needs}

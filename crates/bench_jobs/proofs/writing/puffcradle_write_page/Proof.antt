@@ -1,4 +1,3 @@
--- `bench_jobs::writing::puffcradle_write_page` meets its contract. Assumes nothing.
 use denote.Ref.{now}
 use Rattle.bench_jobs.proofs.WritingLaws.{page-written}
 use borrow.Author.Needs.{needs}

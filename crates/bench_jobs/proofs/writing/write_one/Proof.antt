@@ -1,4 +1,3 @@
--- `bench_jobs::writing::write_one` meets its contract. Assumes nothing.
 use native.Mathlib.Omega.{arith}
 use denote.Ref.{now}
 use Rattle.bench_jobs.proofs.WritingLaws.{write-fits, write-step}

@@ -1,4 +1,4 @@
--- `digits::hex::all_digits` meets its contract: what is left is digits exactly where all are. Assumes nothing.
+-- `digits::hex::all_digits`: what is left is digits exactly where all are. Assumes nothing.
 use mathlib.Core.Path.{_≡_, refl, _∙_}
 use Prim.Native.Nat.{_-_, _≤_, _<_}
 use native.Mathlib.Omega.{arith}

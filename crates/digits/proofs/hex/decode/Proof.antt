@@ -1,4 +1,3 @@
--- `digits::hex::decode` meets its contract. Assumes nothing.
 use mathlib.Core.Path.{_≡_, refl}
 use Prim.Native.Nat.{_%_}
 use native.Mathlib.Omega.{arith}

@@ -1,4 +1,3 @@
--- `digits::hex::digit_in` meets its contract. Assumes nothing.
 use Rattle.digits.proofs.HexLaws.{digit-low, digit-decimal, digit-between, digit-letter, digit-high}
 use borrow.Author.Needs.{needs}
 use Rattle.digits.proofs.hex.digit_in.Statement.{statement}

@@ -1,4 +1,4 @@
--- `digits::hex::encode` meets its contract: after i turns the first i bytes are laid out. Assumes nothing.
+-- `digits::hex::encode`: after i turns the first i bytes are laid out. Assumes nothing.
 use mathlib.Core.Path.{_≡_, refl, _∙_}
 use Prim.Native.Nat.{_-_, _*_, _/_, _≤_, min}
 use native.Mathlib.Omega.{arith}

@@ -1,4 +1,3 @@
--- `digits::hex::hex32` meets its contract. Assumes nothing.
 use Rattle.digits.specs.Hex.{digitsOf}
 use borrow.Author.Needs.{needs}
 use Rattle.digits.proofs.hex.hex32.Statement.{statement}

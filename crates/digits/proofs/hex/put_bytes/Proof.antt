@@ -1,4 +1,4 @@
--- `digits::hex::put_bytes` meets its contract: after i turns the first i bytes are put. Assumes nothing.
+-- `digits::hex::put_bytes`: after i turns the first i bytes are put. Assumes nothing.
 use mathlib.Core.Path.{_≡_, refl, ap, _∙_}
 use mathlib.Core.List.{List}
 use Prim.Native.Nat.{ℕ, _-_, _/_, _≤_}

@@ -1,4 +1,4 @@
--- `digits::number::number_in` meets its contract: the number read on from i is the word's. Assumes nothing.
+-- `digits::number::number_in`: the number read on from i is the word's. Assumes nothing.
 use mathlib.Core.Path.{_≡_, refl, _∙_}
 use Prim.Native.Nat.{_-_}
 use borrow.Author.Needs.{needs}

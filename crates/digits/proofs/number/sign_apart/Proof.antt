@@ -1,4 +1,3 @@
--- `digits::number::sign_apart` meets its contract. Assumes nothing.
 use Rattle.digits.proofs.SignLaws.{below-turns, below-casts, below-adds, below-apart, above-casts, above-apart}
 use Rattle.digits.proofs.number.sign_apart.Statement.{statement}
 use Rattle.digits.proofs.number.sign_apart.Tie as tie

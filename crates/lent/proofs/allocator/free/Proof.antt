@@ -1,4 +1,4 @@
--- `lent::allocator::free` meets its contract: it changes what is lent as the by-value call does. Assumes nothing.
+-- `lent::allocator::free`: it changes what is lent as the by-value call does. Assumes nothing.
 use mathlib.Core.Path.{refl}
 use mathlib.Core.List.{[], _∷_}
 use Rattle.alloc.specs.Calls.{free}

@@ -1,4 +1,4 @@
--- `lent::allocator::free_pages` meets its contract: it answers of what is lent what the by-value call answers. Assumes nothing.
+-- `lent::allocator::free_pages`: it answers of what is lent what the by-value call answers. Assumes nothing.
 use mathlib.Core.Path.{refl}
 use mathlib.Core.List.{[]}
 use Rattle.alloc.specs.Calls.{freePages}

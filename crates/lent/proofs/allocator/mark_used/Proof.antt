@@ -1,4 +1,4 @@
--- `lent::allocator::mark_used` meets its contract: it changes what is lent as the by-value call does. Assumes nothing.
+-- `lent::allocator::mark_used`: it changes what is lent as the by-value call does. Assumes nothing.
 use mathlib.Core.Path.{refl}
 use mathlib.Core.List.{[], _∷_}
 use Rattle.alloc.specs.Calls.{markUsed}

@@ -1,4 +1,4 @@
--- `lent::allocator::page_count` meets its contract: it answers of what is lent what the by-value call answers. Assumes nothing.
+-- `lent::allocator::page_count`: it answers of what is lent what the by-value call answers. Assumes nothing.
 use mathlib.Core.Path.{refl}
 use mathlib.Core.List.{[]}
 use Rattle.alloc.specs.Calls.{pageCount}

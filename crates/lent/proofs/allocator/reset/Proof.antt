@@ -1,4 +1,4 @@
--- `lent::allocator::reset` meets its contract: it changes what is lent as the by-value call does. Assumes nothing.
+-- `lent::allocator::reset`: it changes what is lent as the by-value call does. Assumes nothing.
 use mathlib.Core.Path.{refl}
 use mathlib.Core.List.{[], _∷_}
 use mir.Syntax.{w32, w64}

@@ -1,4 +1,4 @@
--- `lent::allocator::try_allocate` meets its contract: it changes what is lent as the by-value call does. Assumes nothing.
+-- `lent::allocator::try_allocate`: it changes what is lent as the by-value call does. Assumes nothing.
 use mathlib.Core.Path.{refl}
 use mathlib.Core.List.{[]}
 use Rattle.alloc.specs.Calls.{tryAllocate}

@@ -1,4 +1,4 @@
--- `lent::reader::key` meets its contract: it hands out the part of the run that `run::record::Record::key_in` does. Assumes nothing.
+-- `lent::reader::key`: it hands out the part of the run that `run::record::Record::key_in` does. Assumes nothing.
 use Rattle.run.specs.Records.{keyIn}
 use Rattle.run.proofs.record.Record.key_in.Symbol as over-run
 use Rattle.run.proofs.record.Record.key_in.Met.{met}

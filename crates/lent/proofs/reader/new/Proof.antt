@@ -1,4 +1,4 @@
--- `lent::reader::new` meets its contract: a walk of its MIR, by hand. The reader is made of the run passed and 0, in the result's local.
+-- `lent::reader::new`: a walk of its MIR, by hand. The reader is made of the run passed and 0, in the result's local.
 -- A `&[u8]` is Copy, so what it owns is had twice: once for the run at exit, and once inside the reader, beside the facts of its position.
 -- Assumes nothing.
 use mathlib.Core.Path.{refl}

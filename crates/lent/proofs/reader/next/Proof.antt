@@ -1,4 +1,4 @@
--- `lent::reader::next` meets its contract: a walk of its MIR, by hand. The borrow is opened, the run and the position are copied out of the
+-- `lent::reader::next`: a walk of its MIR, by hand. The borrow is opened, the run and the position are copied out of the
 -- reader, `step_at` is called, the position that it answers is stored in the reader, and the borrow is closed there.
 -- The reader is Copy: of what it owns the run's part goes to the callee, beside the run's token, which comes back. Assumes nothing.
 use mathlib.Core.Path.{_≡_, refl}

@@ -1,4 +1,4 @@
--- `lent::reader::read_at` meets its contract: a walk of its MIR, by hand. A reader is made in a local, lent to `next` for a lifetime that is made for
+-- `lent::reader::read_at`: a walk of its MIR, by hand. A reader is made in a local, lent to `next` for a lifetime that is made for
 -- the call, and comes back as `next` says (`LendingReader`); its position is read, beside what `next` answered. Assumes nothing.
 use mathlib.Core.Path.{_≡_, refl}
 use Prim.Native.Nat.{ℕ, _<_, _^_}

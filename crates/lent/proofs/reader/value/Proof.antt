@@ -1,4 +1,4 @@
--- `lent::reader::value` meets its contract: it hands out the part of the run that `run::record::Record::value_in` does. Assumes nothing.
+-- `lent::reader::value`: it hands out the part of the run that `run::record::Record::value_in` does. Assumes nothing.
 use Rattle.run.specs.Records.{valueIn}
 use Rattle.run.proofs.record.Record.value_in.Symbol as over-run
 use Rattle.run.proofs.record.Record.value_in.Met.{met}

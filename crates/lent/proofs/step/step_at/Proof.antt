@@ -1,4 +1,3 @@
--- `lent::step::step_at` meets its contract. Assumes nothing.
 use borrow.Author.Needs.{needs}
 use Rattle.lent.proofs.StepLaws.{step-made}
 use Rattle.lent.proofs.step.step_at.Statement.{statement}

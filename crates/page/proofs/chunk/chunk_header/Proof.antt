@@ -1,4 +1,3 @@
--- `page::chunk::chunk_header` meets its contract. Assumes nothing.
 use Rattle.types.specs.Bytes.{bytesOf}
 use Rattle.page.specs.Chunks.{chunkHeader}
 use borrow.Author.Needs.{needs}

@@ -1,4 +1,3 @@
--- `page::header::check_header` meets its contract. Assumes nothing.
 use Rattle.page.proofs.header.check_header.Statement.{statement}
 use Rattle.page.proofs.header.check_header.Tie as tie
 

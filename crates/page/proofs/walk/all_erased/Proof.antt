@@ -1,4 +1,4 @@
--- `page::walk::all_erased` meets its contract: what is left from i on decides. Assumes nothing.
+-- `page::walk::all_erased`: what is left from i on decides. Assumes nothing.
 use Prim.Native.Nat.{_-_, _≤_}
 use mathlib.Core.Path.{_≡_, refl, sym, _∙_}
 use native.Mathlib.Omega.{arith}

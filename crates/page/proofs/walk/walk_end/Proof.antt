@@ -1,4 +1,4 @@
--- `page::walk::walk_end` meets its contract: the walk from `at` ends where the whole one does. Assumes nothing.
+-- `page::walk::walk_end`: the walk from `at` ends where the whole one does. Assumes nothing.
 use Prim.Native.Nat.{_-_}
 use mathlib.Core.Path.{_≡_, refl, sym, ap, _∙_}
 use native.Mathlib.Omega.{arith}

@@ -1,4 +1,3 @@
--- `reader::check::check_open` meets its contract. Assumes nothing.
 use mathlib.Core.Path.{sym, _∙_}
 use Rattle.types.specs.declared.refusal.Refusal.the-variants.{BadFlash, BadHeader}
 use Rattle.flash.specs.Geometry.{flashFine}

@@ -1,4 +1,3 @@
--- `reader::check::check_page` meets its contract. Assumes nothing.
 use borrow.Author.Needs.{needs}
 use Rattle.reader.proofs.check.check_page.Statement.{statement}
 use Rattle.reader.proofs.check.check_page.Tie as tie

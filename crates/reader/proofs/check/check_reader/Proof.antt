@@ -1,4 +1,3 @@
--- `reader::check::check_reader` meets its contract. Assumes nothing.
 use mathlib.Core.Path.{sym, _∙_}
 use Rattle.types.specs.declared.refusal.Refusal.the-variants.{BadFlash, BadState}
 use Rattle.flash.specs.Geometry.{flashFine}

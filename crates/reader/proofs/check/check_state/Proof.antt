@@ -1,4 +1,3 @@
--- `reader::check::check_state` meets its contract. Assumes nothing.
 use borrow.Author.Needs.{needs}
 use Rattle.reader.proofs.check.check_state.Statement.{statement}
 use Rattle.reader.proofs.check.check_state.Tie as tie

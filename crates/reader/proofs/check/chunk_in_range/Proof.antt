@@ -1,4 +1,3 @@
--- `reader::check::chunk_in_range` meets its contract. Assumes nothing.
 use Rattle.reader.proofs.CheckLaws.{chunk-apart}
 use borrow.Author.Needs.{needs}
 use Rattle.reader.proofs.check.chunk_in_range.Statement.{statement}

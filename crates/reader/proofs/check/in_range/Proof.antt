@@ -1,4 +1,3 @@
--- `reader::check::in_range` meets its contract. Assumes nothing.
 use borrow.Author.Needs.{needs}
 use Rattle.reader.proofs.check.in_range.Statement.{statement}
 use Rattle.reader.proofs.check.in_range.Tie as tie

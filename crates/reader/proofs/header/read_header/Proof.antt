@@ -1,4 +1,3 @@
--- `reader::header::read_header` meets its contract. Assumes nothing.
 use mathlib.Core.Path.{sym, _∙_}
 use borrow.Author.Tests.{not-true, not-false}
 use Rattle.reader.proofs.OpenLaws.{header-refused, header-wrong, header-right}

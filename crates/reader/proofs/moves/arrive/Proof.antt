@@ -1,4 +1,3 @@
--- `reader::moves::arrive` meets its contract. Assumes nothing.
 use borrow.Author.Needs.{needs}
 use Rattle.reader.proofs.moves.arrive.Statement.{statement}
 use Rattle.reader.proofs.moves.arrive.Tie as tie

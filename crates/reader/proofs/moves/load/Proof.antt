@@ -1,4 +1,3 @@
--- `reader::moves::load` meets its contract. Assumes nothing.
 use mathlib.Core.Path.{sym, _∙_}
 use native.Mathlib.Omega.{arith}
 use Rattle.reader.proofs.MoveLaws.{ready-ended, ready-used, ready-in}

@@ -1,4 +1,3 @@
--- `reader::moves::next_chunk` meets its contract. Assumes nothing.
 use mathlib.Core.Path.{_∙_}
 use Rattle.reader.specs.Moves.{moved}
 use borrow.Author.Needs.{needs}

@@ -1,4 +1,4 @@
--- `reader::moves::pass` meets its contract: what is still wanted, from where the reader is, comes to what was wanted at first.
+-- `reader::moves::pass`: what is still wanted, from where the reader is, comes to what was wanted at first.
 -- Assumes nothing.
 use Prim.Native.Nat.{_+_, _-_, _≤_}
 use mathlib.Core.Path.{_≡_, refl, sym, _∙_}

@@ -1,4 +1,3 @@
--- `reader::moves::rest_of` meets its contract. Assumes nothing.
 use mathlib.Core.Path.{sym, _∙_}
 use Rattle.reader.proofs.MoveLaws.{rest-ended, rest-part}
 use borrow.Author.Needs.{needs}

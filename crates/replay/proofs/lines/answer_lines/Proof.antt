@@ -1,4 +1,4 @@
--- `replay::lines::answer_lines` meets its contract: each turn passes a line, and no more lines are passed than bytes. Assumes nothing.
+-- `replay::lines::answer_lines`: each turn passes a line, and no more lines are passed than bytes. Assumes nothing.
 use mathlib.Core.Path.{_≡_}
 use Prim.Native.Nat.{_-_, _≤_}
 use native.Mathlib.Omega.{arith}

@@ -1,4 +1,4 @@
--- `replay_cursor::calls::places_at` meets its contract: each turn reads one place. Assumes nothing.
+-- `replay_cursor::calls::places_at`: each turn reads one place. Assumes nothing.
 use Prim.Native.Nat.{_-_, _≤_}
 use native.Mathlib.Omega.{arith}
 use borrow.Author.Needs.{needs}

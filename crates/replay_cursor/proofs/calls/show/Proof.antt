@@ -1,4 +1,4 @@
--- `replay_cursor::calls::show` meets its contract: each turn says one place. Assumes nothing.
+-- `replay_cursor::calls::show`: each turn says one place. Assumes nothing.
 use Prim.Native.Nat.{_-_, _≤_}
 use native.Mathlib.Omega.{arith}
 use borrow.Author.Needs.{needs}

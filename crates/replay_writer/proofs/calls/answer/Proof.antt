@@ -1,4 +1,4 @@
--- `replay_writer::calls::answer` meets its contract: the flash is no longer than its buffer. Assumes nothing.
+-- `replay_writer::calls::answer`: the flash is no longer than its buffer. Assumes nothing.
 use native.Mathlib.Omega.{arith}
 use lib.ListN.{length-take}
 use borrow.Author.Needs.{needs}

@@ -1,4 +1,4 @@
--- `replay_writer::stores::say_stores` meets its contract: a turn for each store, and no turn changes the flash's length. Assumes nothing.
+-- `replay_writer::stores::say_stores`: a turn for each store, and no turn changes the flash's length. Assumes nothing.
 use mathlib.Core.Path.{_≡_}
 use Prim.Native.Nat.{_-_, _≤_}
 use native.Mathlib.Omega.{arith}

@@ -1,4 +1,3 @@
--- `script::args::bytes_at` meets its contract. Assumes nothing.
 use borrow.Author.Needs.{needs}
 use Rattle.script.proofs.ArgLaws.{bytes-of}
 use Rattle.script.proofs.args.bytes_at.Statement.{statement}

@@ -1,4 +1,3 @@
--- `script::args::bytes_in` meets its contract. Assumes nothing.
 use mathlib.Core.Path.{sym, _∙_}
 use borrow.Author.Needs.{needs}
 use Rattle.script.proofs.ArgLaws.{bytes-dash, bytes-none, bytes-pairs}

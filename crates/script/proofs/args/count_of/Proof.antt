@@ -1,4 +1,3 @@
--- `script::args::count_of` meets its contract. Assumes nothing.
 use borrow.Author.Needs.{needs}
 use Rattle.script.proofs.args.count_of.Statement.{statement}
 use Rattle.script.proofs.args.count_of.Tie as tie

@@ -1,4 +1,3 @@
--- `script::args::flag_in` meets its contract. Assumes nothing.
 use mathlib.Core.Path.{_∙_}
 use borrow.Author.Needs.{needs}
 use Rattle.script.proofs.ArgLaws.{flag-longer, flag-one}

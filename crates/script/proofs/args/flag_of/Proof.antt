@@ -1,4 +1,3 @@
--- `script::args::flag_of` meets its contract. Assumes nothing.
 use Rattle.script.proofs.ArgLaws.{flag-set, flag-clear, flag-other}
 use Rattle.script.proofs.args.flag_of.Statement.{statement}
 use Rattle.script.proofs.args.flag_of.Tie as tie

@@ -1,4 +1,3 @@
--- `script::args::is_dash` meets its contract. Assumes nothing.
 use borrow.Author.Needs.{needs}
 use Rattle.script.proofs.ArgLaws.{dash-longer, dash-one}
 use Rattle.script.proofs.args.is_dash.Statement.{statement}

@@ -1,4 +1,3 @@
--- `script::args::magic_at` meets its contract. Assumes nothing.
 use mathlib.Core.Path.{sym, _∙_}
 use borrow.Author.Needs.{needs}
 use Rattle.script.proofs.ArgLaws.{magic-none, magic-known, magic-other}

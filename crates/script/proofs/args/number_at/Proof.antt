@@ -1,4 +1,3 @@
--- `script::args::number_at` meets its contract. Assumes nothing.
 use borrow.Author.Needs.{needs}
 use Rattle.script.proofs.args.number_at.Statement.{statement}
 use Rattle.script.proofs.args.number_at.Tie as tie

@@ -1,4 +1,3 @@
--- `script::args::number_to` meets its contract. Assumes nothing.
 use mathlib.Core.Path.{sym, _∙_}
 use borrow.Author.Needs.{needs}
 use Rattle.script.proofs.ArgLaws.{up-none, up-within, up-past}

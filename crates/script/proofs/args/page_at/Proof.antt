@@ -1,4 +1,3 @@
--- `script::args::page_at` meets its contract. Assumes nothing.
 use mathlib.Core.Path.{sym, _∙_}
 use borrow.Author.Needs.{needs}
 use Rattle.script.proofs.ArgLaws.{page-none, page-within, page-past}

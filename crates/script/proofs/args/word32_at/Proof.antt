@@ -1,4 +1,3 @@
--- `script::args::word32_at` meets its contract. Assumes nothing.
 use borrow.Author.Needs.{needs}
 use Rattle.script.proofs.args.word32_at.Statement.{statement}
 use Rattle.script.proofs.args.word32_at.Tie as tie

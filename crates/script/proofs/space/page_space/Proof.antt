@@ -1,4 +1,3 @@
--- `script::space::page_space` meets its contract. Assumes nothing.
 use mathlib.Core.Path.{refl}
 use Rattle.slices.specs.Patch.{blank}
 use Rattle.script.proofs.space.page_space.Statement.{statement}

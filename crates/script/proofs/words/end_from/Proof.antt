@@ -1,4 +1,4 @@
--- `script::words::end_from` meets its contract: the end sought from i on is the one sought. Assumes nothing.
+-- `script::words::end_from`: the end sought from i on is the one sought. Assumes nothing.
 use mathlib.Core.Path.{_≡_, refl, _∙_}
 use Prim.Native.Nat.{_-_}
 use native.Mathlib.Omega.{arith}

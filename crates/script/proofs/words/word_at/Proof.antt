@@ -1,4 +1,4 @@
--- `script::words::word_at` meets its contract: the word sought from a later word on is the one sought. Assumes nothing.
+-- `script::words::word_at`: the word sought from a later word on is the one sought. Assumes nothing.
 use mathlib.Core.Path.{_≡_, _∙_}
 use Prim.Native.Nat.{_-_}
 use native.Mathlib.Nat.{sub-zero}

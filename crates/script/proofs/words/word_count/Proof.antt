@@ -1,4 +1,4 @@
--- `script::words::word_count` meets its contract: those counted and those of the rest are all. Assumes nothing.
+-- `script::words::word_count`: those counted and those of the rest are all. Assumes nothing.
 use mathlib.Core.Path.{_≡_, refl, _∙_}
 use mathlib.Core.Logic.{⊎-elim}
 use Prim.Native.Nat.{_+_, _-_, _≤_}

@@ -1,4 +1,3 @@
--- `alloc::allocator::Allocator::free_pages` meets its contract. Assumes nothing.
 use mathlib.Core.Path.{_≡_, sym, _∙_}
 use borrow.Author.Needs.{needs}
 use Rattle.alloc.specs.Calls.{freePages}

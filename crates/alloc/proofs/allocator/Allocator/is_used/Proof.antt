@@ -1,4 +1,3 @@
--- `alloc::allocator::Allocator::is_used` meets its contract. Assumes nothing.
 use mathlib.Core.Path.{_≡_, sym, _∙_}
 use borrow.Author.Needs.{needs}
 use Rattle.types.specs.declared.page_id.PageID.{PageID}

@@ -1,4 +1,3 @@
--- `alloc::allocator::Allocator::reset` meets its contract. Assumes nothing.
 use mathlib.Core.Path.{_≡_, sym, _∙_}
 use native.Mathlib.Omega.{arith}
 use borrow.Author.Needs.{needs}

@@ -1,4 +1,3 @@
--- `alloc::answers::Margin::pages_or` meets its contract. Assumes nothing.
 use borrow.Author.Needs.{needs}
 use Rattle.alloc.proofs.answers.Margin.pages_or.Statement.{statement}
 use Rattle.alloc.proofs.answers.Margin.pages_or.Tie as tie

@@ -1,4 +1,3 @@
--- `alloc::answers::Usage::is_used` meets its contract. Assumes nothing.
 use mathlib.Core.Path.{sym, ap}
 use borrow.Author.Needs.{needs}
 use lib.Dec.{eqb}

@@ -1,4 +1,3 @@
--- `reader::answers::Dehydration::state_or` meets its contract. Assumes nothing.
 use borrow.Author.Needs.{needs}
 use Rattle.reader.proofs.AnswerLaws.{state-told, other-told}
 use Rattle.reader.proofs.answers.Dehydration.state_or.Statement.{statement}

@@ -1,4 +1,3 @@
--- `reader::answers::EndTest::at_end` meets its contract. Assumes nothing.
 use mathlib.Core.Path.{sym, ap}
 use borrow.Author.Needs.{needs}
 use lib.Dec.{eqb}

@@ -1,4 +1,3 @@
--- `reader::page_reader::PageReader::dehydrate` meets its contract. Assumes nothing.
 use Rattle.reader.specs.Calls.{dehydrate}
 use borrow.Author.Needs.{needs}
 use Rattle.reader.proofs.page_reader.PageReader.dehydrate.Statement.{statement}

@@ -1,4 +1,3 @@
--- `reader::page_reader::PageReader::is_at_eof` meets its contract. Assumes nothing.
 use mathlib.Core.Path.{sym, _∙_}
 use Rattle.reader.proofs.ReadLaws.{known-whole, eof-refused, eof-bad, eof-end, eof-more}
 use borrow.Author.Needs.{needs}

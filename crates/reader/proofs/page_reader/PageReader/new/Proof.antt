@@ -1,4 +1,3 @@
--- `reader::page_reader::PageReader::new` meets its contract. Assumes nothing.
 use mathlib.Core.Path.{_∙_}
 use Rattle.reader.proofs.StateLaws.{unread-zero}
 use borrow.Author.Needs.{needs}

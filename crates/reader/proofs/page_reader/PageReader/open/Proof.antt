@@ -1,4 +1,3 @@
--- `reader::page_reader::PageReader::open` meets its contract. Assumes nothing.
 use mathlib.Core.Path.{sym, _∙_}
 use borrow.Author.Tests.{not-true, not-false}
 use Rattle.reader.proofs.OpenLaws.{open-refused, open-wrong, open-bad, open-at}

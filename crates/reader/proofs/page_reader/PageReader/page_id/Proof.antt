@@ -1,4 +1,3 @@
--- `reader::page_reader::PageReader::page_id` meets its contract. Assumes nothing.
 use Rattle.reader.specs.Calls.{pageId}
 use borrow.Author.Needs.{needs}
 use Rattle.reader.proofs.page_reader.PageReader.page_id.Statement.{statement}

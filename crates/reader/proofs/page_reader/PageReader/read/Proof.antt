@@ -1,4 +1,3 @@
--- `reader::page_reader::PageReader::read` meets its contract. Assumes nothing.
 use mathlib.Core.Path.{sym, _∙_}
 use native.Mathlib.Omega.{arith}
 use lib.ListN.{length}

@@ -1,4 +1,3 @@
--- `reader::page_reader::PageReader::rehydrate_from` meets its contract. Assumes nothing.
 use mathlib.Core.Path.{sym, ap, _∙_}
 use Rattle.crc.specs.Published.{published}
 use Rattle.reader.specs.declared.page_reader.PageReader.{PageReader}

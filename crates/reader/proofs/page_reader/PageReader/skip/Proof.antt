@@ -1,4 +1,3 @@
--- `reader::page_reader::PageReader::skip` meets its contract. Assumes nothing.
 use mathlib.Core.Path.{sym, _∙_}
 use Rattle.reader.proofs.SkipLaws.{skip-left}
 use Rattle.reader.proofs.ReadLaws.{known-whole, skip-refused, skip-spoilt, skip-to}

@@ -1,4 +1,3 @@
--- `run::record::Head::record_or` meets its contract. Assumes nothing.
 use borrow.Author.Needs.{needs}
 use Rattle.run.proofs.AnswerLaws.{record-told, other-told}
 use Rattle.run.proofs.record.Head.record_or.Statement.{statement}

@@ -1,4 +1,3 @@
--- `types::page_id::PageID::from_raw` meets its contract. Assumes nothing.
 use borrow.Author.Tests.{eq-eqb, ne-eqb}
 use Rattle.types.specs.PageIDs.{noPage}
 use Rattle.types.proofs.page_id.PageID.from_raw.Statement.{statement}
