@@ -104,7 +104,7 @@ comes-round (suc m) a p s below f h = ⊎-elim (λ e. absurd (never e)) (λ q. o
         (suc (r .0), (omega (arith, r .1 .0), r .1 .1)))
         (eq-or-ne (page .0) p)
 
--- and so is a page that was freed
+-- a page that was freed is handed out again too
 pub found-again : (a : Allocator) (p : ℕ) → Sound a → p < a .«page_count» → isMarked (a .pages) p ≡ true
     → (k : ℕ) × ((k < a .«page_count» - a .used + 1)
     × (calls.tryAllocate (leftAfter (calls.free a (record { 0 = p }) .allocator) (replicate k tryAllocate)) .answer ≡ Page (record { 0 = p })))

@@ -42,7 +42,7 @@ pub record HandedOut (a : Allocator) (p : ℕ) (b : Allocator) : Type 0 where
   pub same : b .«page_count» ≡ a .«page_count»
   pub counted : b .used ≡ a .used + 1
   pub next : b .«next_page_id» ≡ (p + 1) % a .«page_count»
-  -- so many pages on from the next one, and each before it is used
+  -- how many pages on from the next one it lies; each page before it is used
   pub steps : ℕ
   pub within : steps < a .«page_count»
   pub is : p ≡ (a .«next_page_id» + steps) % a .«page_count»

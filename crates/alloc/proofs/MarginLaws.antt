@@ -23,7 +23,7 @@ mag-sub m (suc n) h k = side (ltb m (suc n)) (suc n - suc m) (m - suc n) (omega 
 pub small : (n : ℕ) → n ≤ maxPageCount → SFits w64 (pos n)
 small n h = record { sfits = omega arith }
 
--- and so is the difference of two, which is read back as it is
+-- the difference of two numbers of pages is a signed number too, and is read back as it is
 module _ (m n : ℕ) (few : m ≤ maxPageCount) (wanted : n ≤ maxPageCount) where
   margin-is : toZ w64 m -ℤ toZ w64 n ≡ pos m -ℤ pos n
   margin-is = rw (toZ-pos w64 {n = m} (omega arith), toZ-pos w64 {n = n} (omega arith))

@@ -57,7 +57,7 @@ bit-le (suc k) n (suc i) e =
     let l : 2 ^ i ≤ n / 2 = bit-le k (n / 2) i e in
     omega arith
 
--- and one that holds k bits still does with a bit set that is 0
+-- a number below 2 ^ k stays below it when a bit that is 0 is set
 pub bit-room : (k n i : ℕ) → i < k → n < 2 ^ k → getD (bitsOf k n) i false ≡ false → n + 2 ^ i < 2 ^ k
 unfolding bitsOf
 bit-room zero n i h l e = absurd (omega arith)
@@ -243,6 +243,6 @@ mark-bit bs p = mark-is bs p ∙ sym (getD-bitsOf 8 (getD bs (p / 8) 0) (p % 8) 
 pub mark-fits : (bs : List ℕ) (p : ℕ) → getD bs (p / 8) 0 < 256 → isMarked bs p ≡ false → getD bs (p / 8) 0 + 2 ^ (p % 8) < 256
 mark-fits bs p l f = bit-room 8 (getD bs (p / 8) 0) (p % 8) (omega arith) l (sym (mark-bit bs p) ∙ f)
 
--- and a marked page's byte has its bit to take away
+-- a marked page's byte has the bit that is taken away
 pub mark-there : (bs : List ℕ) (p : ℕ) → isMarked bs p ≡ true → 2 ^ (p % 8) ≤ getD bs (p / 8) 0
 mark-there bs p f = bit-le 8 (getD bs (p / 8) 0) (p % 8) (sym (mark-bit bs p) ∙ f)

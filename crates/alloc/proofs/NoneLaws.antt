@@ -103,7 +103,7 @@ none-exactly a size r = (forth, back)
         let full : a .used ≡ a .«page_count» = ⊎-elim (λ z. omega (arith, used-le a r)) (λ e. e) h in
         rw (state-fine a r, used-none a r (full-says a size r full))
 
--- and then nothing changes
+-- where the answer is none, nothing changes
 pub none-changes-nothing : (a : Allocator) → tryAllocate a .answer ≡ None → tryAllocate a .allocator ≡ a
 unfolding tryAllocate
 none-changes-nothing a e = let s = none-after (stateCheck a) a (found a) e in rw (s .0, s .1)

@@ -17,7 +17,7 @@ wraps x count h =
     (le-or-lt count x)
 
 module _ (next count : ℕ) (fits : next < count) where
-  -- different pages so far on are different pages
+  -- numbers of pages to go on that lead to one page are equal
   pub round-different : (i j : ℕ) → i < count → j < count → (next + i) % count ≡ (next + j) % count → i ≡ j
   round-different i j hi hj e =
       ⊎-elim
@@ -25,7 +25,7 @@ module _ (next count : ℕ) (fits : next < count) where
       (λ x. ⊎-elim (λ y. omega arith) (λ y. omega arith) (wraps (next + j) count (omega arith)))
       (wraps (next + i) count (omega arith))
 
-  -- and every page is so far on
+  -- every page lies fewer than count pages on
   pub round-every : (p : ℕ) → p < count → (i : ℕ) × ((i < count) × ((next + i) % count ≡ p))
   round-every p h =
       ⊎-elim

@@ -122,17 +122,17 @@ in-turn a count seed n some few h =
     ap (λ (c : Change). outcomeTold (c .answer) ∷ answersTo (c .allocator) (replicate n tryAllocate)) (reset-done a count seed some few)
     ∙ ap (λ (l : List Told). answered [] ∷ l) (turns count first few (mod-lt seed some) n 0 (allFree count first) t (omega arith) ∙ seeds)
 
--- so they are different,
+-- the pages handed out are different
 pub turns-different : (count seed i j : ℕ) → i < count → j < count → (seed + i) % count ≡ (seed + j) % count → i ≡ j
 turns-different count seed i j hi hj e =
     round-different (seed % count) count (mod-lt seed (omega arith)) i j hi hj (mod-add-mod seed count i ∙ e ∙ sym (mod-add-mod seed count j))
 
--- every page is among the first count of them,
+-- every page is among the first count of them
 pub turns-every : (count seed p : ℕ) → p < count → (i : ℕ) × ((i < count) × ((seed + i) % count ≡ p))
 turns-every count seed p h =
     let r = round-every (seed % count) count (mod-lt seed (omega arith)) p h in (r .0, (r .1 .0, sym (mod-add-mod seed count (r .0)) ∙ r .1 .1))
 
--- and then there is none
+-- after the first count of them there is none
 pub then-none : (a : Allocator) (count seed : ℕ) → 1 ≤ count → count ≤ maxPageCount → calls.tryAllocate (leftAfter a (reset count seed ∷ replicate count tryAllocate)) .answer ≡ None
 unfolding leftAfter leftBy
 then-none a count seed some few =

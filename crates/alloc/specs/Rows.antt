@@ -1,5 +1,5 @@
 -- The reference cases of the allocator (docs/RULES.md, Reference cases), as data: calls on a new allocator, and what they answer;
--- and rows of the calls for several pages, on the same numbers. Assumes nothing.
+-- further, rows of the calls for several pages, on the same numbers. Assumes nothing.
 use mathlib.Core.List.{List, [], _∷_}
 use lib.IntN.{negsuc}
 use Rattle.types.specs.declared.refusal.Refusal.the-variants.{Corrupted, OutOfRange}

@@ -23,7 +23,7 @@ allocateOne t =
       sum = mixed (t .sum) (codeOf (tryAllocate (t .allocator) .answer));
     }
 
--- so many pages
+-- n pages handed out, one after the other
 unfoldable pub allocateFirst : ℕ → Tally → Tally
 allocateFirst zero t = t
 allocateFirst (suc n) t = allocateOne (allocateFirst n t)
@@ -35,7 +35,7 @@ freeOne p t =
       sum = mixed (t .sum) (outcomeTold (free (t .allocator) (record { 0 = p }) .answer) .number);
     }
 
--- the pages from 0 on, so many of them
+-- the first n pages freed, from page 0 on
 unfoldable pub freeFirst : ℕ → Tally → Tally
 freeFirst zero t = t
 freeFirst (suc n) t = freeOne n (freeFirst n t)

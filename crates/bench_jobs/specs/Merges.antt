@@ -53,7 +53,7 @@ mergeOne runs ends s =
     (nextKey runs ends Unbounded [] (s .merging .cursor) (s .key) (s .value))
     (nextValue runs ends Unbounded [] (s .merging .cursor) (s .key) (s .value))
 
--- at most so many calls, while it goes on
+-- at most n calls, while it goes on
 unfoldable pub mergeOn : ℕ → List ℕ → List ℕ → MergeState → MergeState
 mergeOn zero runs ends s = s
 mergeOn (suc n) runs ends s = cond (s .merging .on) (mergeOn n runs ends (mergeOne runs ends s)) s

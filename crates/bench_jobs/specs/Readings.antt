@@ -49,7 +49,7 @@ readFrom from flash s =
 unfoldable pub readOne : List ℕ → ReadState → ReadState
 readOne flash s = readFrom (putAt (s .out) (s .reading)) flash s
 
--- at most so many reads, while it goes on
+-- at most n reads, while it goes on
 unfoldable pub readOn : ℕ → List ℕ → ReadState → ReadState
 readOn zero flash s = s
 readOn (suc n) flash s = cond (s .reading .on) (readOn n flash (readOne flash s)) s

@@ -73,7 +73,7 @@ afterTaking from (taking.Refused why) w left = record { writer = w; left = left;
 abbrev pub afterWrite : ℕ → Wrote → Writing
 afterWrite from w = afterTaking from (w .answer) (w .writer) (w .left)
 
--- a write of these bytes, behind so many that were taken, and of the piece that starts there
+-- a write of these bytes, where `from` bytes were taken before; and a write of the piece that starts there
 abbrev pub writeBytes : ℕ → List ℕ → Writing → List ℕ → WriteState
 writeBytes from bytes w flash =
     let d = writeDuty eraseValue flash (w .writer) bytes in
@@ -88,7 +88,7 @@ writeFrom from payload piece s = writeBytes from (take piece (drop from payload)
 unfoldable pub writeOne : List ℕ → ℕ → WriteState → WriteState
 writeOne payload piece s = writeFrom (min (s .writing .taken) (length payload)) payload piece s
 
--- at most so many writes, while it goes on
+-- at most n writes, while it goes on
 unfoldable pub writeOn : ℕ → List ℕ → ℕ → WriteState → WriteState
 writeOn zero payload piece s = s
 writeOn (suc n) payload piece s = cond (s .writing .on) (writeOn n payload piece (writeOne payload piece s)) s

@@ -180,7 +180,7 @@ module _ (xs : List ℕ) (page : PageID) (magic h o : ℕ) (w : PageWriter) (k :
   pub cut-safe : found (added eraseValue xs page h w k pieces) magic page h ≡ finds (payloads (pageOf (page .0) xs) h ++ addedPayload eraseValue xs page h w k pieces)
   cut-safe = now-finds xs then page magic h new fine there (cut-elsewhere eraseValue xs page h w k pieces) holds-then
 
-  -- and with any rooms of a byte or more it reads those bytes
+  -- with rooms of any sizes from one byte on it reads those bytes
   pub cut-safe-rooms : (buffers : ℕ → List ℕ) → Rooms buffers
       → joined (foundWith buffers (added eraseValue xs page h w k pieces) magic page h)
       ≡ handsOut (flatten (payloads (pageOf (page .0) xs) h ++ addedPayload eraseValue xs page h w k pieces))

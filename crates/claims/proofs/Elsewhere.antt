@@ -1,7 +1,7 @@
 -- No call changes a byte of another page, nor any byte that none of its operations covers, nor the flash's length. The calls of a
 -- writer that store are write, commit and write_header, each a duty that leaves the flash as `leaves` says; the flash's own store_if
--- and erase_if leave it as `allowedOn` says. No other call is lent the flash to change it. So a whole addition and any history of a page
--- leave every other page as it was. Assumes nothing.
+-- and erase_if leave it as `allowedOn` says. No other call of the storage crates is lent the flash to change it. So a whole addition
+-- and any history of a page leave every other page as it was. Assumes nothing.
 use mathlib.Core.Path.{_≡_, refl, ap, subst, _∙_}
 use mathlib.Core.Bool.{Bool, true, false, cond}
 use mathlib.Core.List.{List, [], _∷_}
@@ -110,7 +110,7 @@ cut-elsewhere e xs page h w k pieces = by (appended e xs page h w k .answer) ref
     by (outcome.Refused why) a = kept-none (page .0) xs
     by outcome.Done a = writes-kept e page pieces (appended e xs page h w k .writer) (appended e xs page h w k .left) xs (append-page e xs page h w k a)
 
--- and after any episodes
+-- the same after any episodes
 pub history-elsewhere : (e : ℕ) (page : PageID) (h : ℕ) (ts : List Episode) (xs : List ℕ) → OthersKept (page .0) xs (history e xs page h ts)
 unfolding history
 history-elsewhere e page h [] xs = kept-none (page .0) xs

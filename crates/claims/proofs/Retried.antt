@@ -101,7 +101,7 @@ module _ (e : ℕ) (call : AddCall) (w : PageWriter) (left : ℕ) (xs : List ℕ
       ∙ ap (λ (d : Duty). record { ended = handsBack d w stores; flash = leaves d w stores ys }) (duty-same e call xs ys w (elsewhere duty w left xs .others .long))
 
   -- RETRIED: a call that was cut, made again with what it handed back and with as many stores as at first or more, leaves the answer, the
-  -- writer, the count and the flash that it leaves with so many stores from the start
+  -- writer, the count and the flash that it leaves with those stores from the start
   pub retried : (stores : ℕ) → left ≤ stores → called e call w left xs .ended .answer ≡ Refused Cut
       → calledAgain e call (called e call w left xs) stores ≡ called e call w stores xs
   retried stores h a =
@@ -120,7 +120,7 @@ module _ (e : ℕ) (call : AddCall) (w : PageWriter) (left : ℕ) (xs : List ℕ
       ∙ ap (λ (v : Verdict). record { ended = ended v (duty .ops) (duty .next) w stores; flash = endedFlash v (duty .ops) w stores (endedFlash v (duty .ops) w left xs) })
       (checks-by (duty .ops) (duty .next) w left why (duty .verdict) a n)
 
--- and a write answers how many bytes it takes
+-- a write made again answers how many bytes it takes, as with those stores from the start
 pub retried-write : (e : ℕ) (bytes : List ℕ) (w : PageWriter) (left : ℕ) (xs : List ℕ) (stores : ℕ) → left ≤ stores → called e (writes bytes) w left xs .ended .answer ≡ Refused Cut
     → wrote (takes (length bytes) (called e (writes bytes) w left xs .ended .writer)) (calledAgain e (writes bytes) (called e (writes bytes) w left xs) stores .ended)
     ≡ wrote (takes (length bytes) w) (called e (writes bytes) w stores xs .ended)

@@ -79,7 +79,7 @@ unfolding word bytesOf crc.bits crc.number crc.message crc.among crc.terms crc.g
     pageHeader chunkOfOne twoChunkFlash pageHeaderFine chunkAt checkedAt openVerdict readerVerdict openPage walk walkFrom
 premises = (refl, (refl, (omega arith, tt)))
 
--- and that page meets the premises
+-- the statement holds of that page, which meets the premises
 pub worked-skip-is-read : SkipIsRead twoChunkFlash (openedOn twoChunkFlash) 2 ones ones
 worked-skip-is-read =
     skip-is-read twoChunkFlash (openedOn twoChunkFlash) 2 ones ones (premises .1 .0)

@@ -28,7 +28,7 @@ use Rattle.claims.specs.Again.{Left, IsRefused, Slots, ReaderCall, reads
 
 -- ---- a history
 
--- where a reader comes from: it was never opened, or opened with this magic, on this page, with so many bytes of higher header
+-- where a reader comes from: it was never opened, or opened with this magic, on this page, with a higher header of this length
 pub data Origin : Type 0 where
   never : Origin
   openedAt : ℕ → PageID → ℕ → Origin
@@ -94,7 +94,7 @@ afterCall flash k a = record {
   slots = slotsBy k (a .call);
 }
 
--- and after any calls
+-- what is at hand after any calls
 unfoldable pub afterCalls : List ℕ → Held → List Asked → Held
 afterCalls flash k [] = k
 afterCalls flash k (a ∷ more) = afterCalls flash (afterCall flash k a) more

@@ -70,7 +70,7 @@ LandsBy e (writes bytes) ops page = Lands e ops page
 LandsBy e commits ops page = Lands e ops page
 LandsBy e (heads magic header) ops page = Unit
 
--- so does each of these
+-- each of these calls keeps to that
 abbrev pub AllLand : ℕ → List Making → Type 0
 AllLand e [] = Unit
 AllLand e (m ∷ ms) = LandsBy e (m .call) (m .ops) (m .page) × AllLand e ms

@@ -18,7 +18,7 @@ pub record OthersKept (p : ℕ) (xs ys : List ℕ) : Type 0 where
   pub other-pages : (q : ℕ) → (p ≡ q → ⊥) → pageOf q ys ≡ pageOf q xs
   pub long : length ys ≡ length xs
 
--- and so is every byte that none of these operations on page p covers
+-- the other pages and the length are kept, and every byte that none of these operations on page p covers is as it was
 pub record Elsewhere (p : ℕ) (ops : List Op) (xs ys : List ℕ) : Type 0 where
   pub others : OthersKept p xs ys
   pub uncovered : (i d : ℕ) → Uncovered (pageStart p) ops i → getD ys i d ≡ getD xs i d

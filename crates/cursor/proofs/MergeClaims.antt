@@ -66,7 +66,7 @@ module _ (bytes ends : List ℕ) (good : goodRuns (length bytes) ends ≡ true) 
         ),
       )
 
-  -- and whatever they hand out up to it is the merge
+  -- whatever calls of next hand out up to their end is the merge
   pub merge-exact : (pairs : List Pair) → Hands bytes ends high upper (newOf bytes ends low lower .cursor) key value pairs
       → Merged (length ends) items (between low lower high upper) pairs
   merge-exact pairs h =

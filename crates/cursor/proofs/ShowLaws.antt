@@ -89,7 +89,7 @@ module _ (run : List ℕ) (bound : Bound) (upper : List ℕ) where
     shows-none _ _ (past x g t) e = refl
     shows-none _ _ (item x g t s) e = absurd (not-gone _ x (rw (g, t) at e))
 
-    -- and one that shows items is not refused
+    -- a run that shows items is not refused
     pub shows-fine : (place : Place) (items : List Item) → Shows place items → (why : Refusal) → lookAt run place bound upper lowest low ≡ look.Refused why → ⊥
     unfolding lookAt lookHead
     shows-fine _ _ none why e = let z : _≡_ {A = ℕ} 0 1 = cc in omega arith

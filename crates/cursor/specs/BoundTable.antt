@@ -49,7 +49,7 @@ keysBy End buffer later = []
 keysBy (Entry k v) buffer later = take k buffer ∷ later
 keysBy (Refused why) buffer later = []
 
--- the keys that at most so many calls of next hand out
+-- the keys that a number of calls of next hand out at most
 unfoldable pub keysFrom : ℕ → List ℕ → List ℕ → Bound → List ℕ → Cursor → List (List ℕ)
 keysFrom zero bytes ends bound upper c = []
 keysFrom (suc calls) bytes ends bound upper c =

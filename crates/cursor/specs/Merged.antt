@@ -22,7 +22,7 @@ orElse nothing older = older
 orElse deleted older = deleted
 orElse (live value) older = live value
 
--- what the first so many runs say of a key: the newest that has it decides
+-- what the runs below number i say of a key: the newest that has it decides
 unfoldable pub said : List ℕ → ℕ → (ℕ → List Item) → Said
 said key zero items = nothing
 said key (suc i) items = orElse (saidIn key (items i)) (said key i items)

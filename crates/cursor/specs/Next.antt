@@ -60,7 +60,7 @@ unfoldable pub nextBy : Verdict → List ℕ → List ℕ → Pass → ℕ → �
 nextBy check.Fine bytes ends p keyRoom valueRoom c = movedBy (answerTo bytes ends (p .lowest) keyRoom valueRoom) p
 nextBy (check.Refused why) bytes ends p keyRoom valueRoom c = record { cursor = c; answer = Refused why }
 
--- the answer and the cursor, for buffers of so many bytes
+-- the answer and the cursor, for buffers of keyRoom and valueRoom bytes
 unfoldable pub nextOf : List ℕ → List ℕ → Bound → List ℕ → Cursor → ℕ → ℕ → Moved
 nextOf bytes ends bound upper c keyRoom valueRoom =
     nextBy (nextCheck (length bytes) ends (c .places)) bytes ends (settled bytes ends bound upper (c .places)) keyRoom valueRoom c

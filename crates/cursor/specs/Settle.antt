@@ -20,7 +20,7 @@ isHidden None = false
 isHidden (Found run r) = r .deleted
 isHidden (Refused why) = false
 
--- the bytes that a run of so many has left
+-- the bytes that a run of `size` bytes has left
 unfoldable pub leftAt : ℕ → Place → ℕ
 leftAt size (At at) = size - at
 leftAt size Gone = 0
@@ -28,7 +28,7 @@ leftAt size Gone = 0
 abbrev pub leftOf : List ℕ → List RunPlace → ℕ → ℕ
 leftOf ends places i = leftAt (endOf ends i - startOf ends i) (placeOf places i)
 
--- the first so many numbers, added up
+-- the sum of f 0 to f (n - 1)
 unfoldable pub sumTo : ℕ → (ℕ → ℕ) → ℕ
 sumTo zero f = 0
 sumTo (suc n) f = f n + sumTo n f
@@ -37,7 +37,7 @@ sumTo (suc n) f = f n + sumTo n f
 unfoldable pub left : List ℕ → List RunPlace → ℕ
 left ends places = sumTo fileCount (leftOf ends places)
 
--- a pass, and after a deletion another from where it stepped on to; at most so many more
+-- a pass, and after a deletion another one from where it stepped on to, with at most `more` further passes
 unfoldable pub settleFrom : List ℕ → List ℕ → Bound → List ℕ → ℕ → List RunPlace → Pass
 settleFrom bytes ends bound upper zero places = passOf bytes ends bound upper places
 settleFrom bytes ends bound upper (suc more) places =

@@ -25,7 +25,7 @@ unfoldable pub laid : List Item → List Item → List Item
 laid [] older = older
 laid (x ∷ newer) older = laidFirst x newer (λ rest. laid newer rest) older
 
--- the first so many runs together
+-- the runs below number i together
 unfoldable pub union : ℕ → (ℕ → List Item) → List Item
 union zero items = []
 union (suc i) items = laid (items i) (union i items)

@@ -33,7 +33,7 @@ fn end_of(ends: &[usize], i: usize) -> usize {
     0
 }
 
-// The ends of so many runs.
+// The ends of the first `files` runs.
 pub(crate) fn first_ends(ends: &[usize], files: usize) -> &[usize] {
     let start = 0;
     let end = least(files, ends.len());

@@ -187,7 +187,7 @@ pub fine-sum : (page : List ℕ) (o len crc : ℕ) → payloadFine page o len cr
 fine-sum page o len crc f = eqb-true (published (payloadAt page o len)) crc
     (both-true (eqb (length (payloadAt page o len)) len) (eqb (published (payloadAt page o len)) crc) f .1)
 
--- and a right sum over a payload that is there is fine
+-- a payload that is all there and has the right sum is fine
 pub sum-fine : (page : List ℕ) (o len crc : ℕ) → o + chunkHeaderSize + len ≤ length page → published (payloadAt page o len) ≡ crc → payloadFine page o len crc ≡ true
 sum-fine page o len crc there s =
     let whole : length (payloadAt page o len) ≡ len = simp (length-take, length-drop) (omega arith) in

@@ -1,4 +1,4 @@
--- How a walk's chunks lie on the page: one behind the other, each whole, at most so many as fit. Assumes nothing.
+-- How a walk's chunks lie on the page: one behind the other, each whole, no more than fit. Assumes nothing.
 use mathlib.Core.Path.{_≡_, refl, sym, subst}
 use mathlib.Core.List.{List, [], _∷_}
 use Prim.Native.Nat.{ℕ, _+_, _*_, _%_, _≤_}
@@ -126,7 +126,7 @@ walk-placed page o g h =
     (λ c p. record { group = p .group; start = p .start; small = p .small; whole = omega (arith, p .whole, end-within o cs h (walk-laid page o)) })
     cs (laid-placed o cs g (walk-laid page o))
 
--- so many chunks as headers fit, and no page has more than 510
+-- a page has no more chunks than chunk headers fit, and never more than 510
 pub walk-count : (page : List ℕ) (o : ℕ) → o ≤ pageSize → o + chunkHeaderSize * length (walkFrom page o .chunks) ≤ pageSize
 walk-count page o h =
     let cs = walkFrom page o .chunks in

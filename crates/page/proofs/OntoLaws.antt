@@ -43,7 +43,7 @@ module _ (p q : List ℕ) where
       → walkFrom q o ≡ record { chunks = walkFrom p o .chunks ++ (record { offset = e; len = len; crc = crc } ∷ []); ending = EndAt next }
   walk-added o e len crc next h a s t = walk-onto o e h a ∙ rw (walk-chunk q e len crc next s, walk-end q next t)
 
-  -- and one that cannot be
+  -- a chunk stands there that cannot be
   pub walk-spoilt : (o e : ℕ) → walkFrom p o .ending ≡ EndAt e → take e q ≡ take e p → chunkAt q e ≡ step.Corrupted
       → walkFrom q o ≡ record { chunks = walkFrom p o .chunks; ending = Corrupted }
   walk-spoilt o e h a s = walk-onto o e h a ∙ rw (walk-bad q e s, append-nil)

@@ -67,7 +67,7 @@ module _ (page : List ℕ) (o len crc : ℕ) (room : o + chunkHeaderSize ≤ len
   pub payload-put : (n : ℕ) → payloadAt (patch o (chunkHeader len crc) page) o n ≡ payloadAt page o n
   payload-put n = ap (take n) (drop-patch-above (o + 8) o (chunkHeader len crc) page (rw length-chunkHeader (omega arith)))
 
--- and with the sum of what stands behind it a reader takes it
+-- a reader takes a chunk whose header has the sum of what stands behind it
 pub checked-put : (page : List ℕ) (o len : ℕ) → o + chunkHeaderSize + len ≤ length page → len ≤ maxChunkSize → o + chunkHeaderSize + len ≤ pageSize
     → checkedAt (patch o (chunkHeader len (published (payloadAt page o len))) page) o ≡ Chunk len (published (payloadAt page o len)) (nextOffset o len)
 checked-put page o len there small fits =
@@ -95,7 +95,7 @@ module _ (magic p : ℕ) (header page : List ℕ) (room : pageHeaderSize + lengt
   unfolding pageHeader bytesOf
   headerOf-put = in-page-header (length header) 12 (omega arith) ∙ take-length header
 
-  -- and the page header is found fine
+  -- the page header is found fine
   pub header-put : magic < 2 ^ 32 → p < 2 ^ 32 → pageHeaderFine (patch 0 (pageHeader magic p header) page) magic p (length header) ≡ true
   unfolding pageHeader bytesOf
   header-put m n =

@@ -29,7 +29,7 @@ walkAfter rest o step.Corrupted = record { chunks = []; ending = Corrupted }
 walkAfter rest o (step.Chunk len crc next) =
     record { chunks = record { offset = o; len = len; crc = crc } ∷ rest next .chunks; ending = rest next .ending }
 
--- the walk from o, over at most so many steps
+-- the walk from o, over at most n steps
 unfoldable pub walk : ℕ → List ℕ → ℕ → Walked
 walk zero page o = record { chunks = []; ending = EndAt o }
 walk (suc n) page o = walkAfter (walk n page) o (chunkAt page o)

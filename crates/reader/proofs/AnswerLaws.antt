@@ -18,6 +18,6 @@ as-told d t e = ap (ended-so d) (sym e)
 pub state-told : (d other : DehydratedPageReader) → d ≡ stateOr other (dehydrationTold (dehydration.State d))
 state-told d other = as-told d _ (flag-back (d .ended))
 
--- and another stays as it is
+-- where no state is told, the other one is handed out as it is
 pub other-told : (other : DehydratedPageReader) → other ≡ stateOr other (answered [])
 other-told other = as-told other _ (flag-back (other .ended))

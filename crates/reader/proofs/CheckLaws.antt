@@ -152,7 +152,7 @@ reader-known n r e =
     let c = asked-both (hasPage n (r .page .0)) OutOfRange _ (b .1) in
     record { flash = inside n (r .page .0) (a .0) (c .0); range = range-known r (b .0) }
 
--- and the other way round
+-- the checks pass where each of their tests does
 pub reader-fine : (n : ℕ) (r : PageReader) → flashFine n ≡ true → r .page .0 < pageCount n → InRange r → readerVerdict n r ≡ Fine
 unfolding readerVerdict
 reader-fine n r f has k = rw (f, range-in r k, lt-ltb (r .page .0) (pageCount n) has)

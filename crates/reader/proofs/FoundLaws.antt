@@ -205,7 +205,7 @@ module _ (flash : List ℕ) (magic : ℕ) (page : PageID) (h : ℕ) where
       let w = walkFrom (pageOf (page .0) flash) (12 + h) in
       found-is-walk v f full ∙ good-whole (pageOf (page .0) flash) (w .chunks) (w .ending) right ∙ rw end
 
-  -- and where the page header or a check before it refuses
+  -- nothing is found where the page header, or a check before it, refuses
   pub found-refused : (buffers : ℕ → List ℕ) (w : Refusal) → openVerdict (length flash) h page ≡ Refused w
       → foundWith buffers flash magic page h ≡ nothingMore (Refused w)
   unfolding foundWith openPage

@@ -43,7 +43,7 @@ record Passing (page : List ℕ) (r : PageReader) (count : ℕ) (j : Joined) (s 
   page-kept : s .page ≡ r .page
   full : FullBehind page r → FullBehind page s
 
--- or came to what is corrupted before it had passed them
+-- all of them were passed, or what is corrupted came before that
 abbrev PassingOf : List ℕ → PageReader → ℕ → Joined → Passed → Type 0
 PassingOf page r count j (passed.To s left) = Passing page r count j s left
 PassingOf page r count j passed.Corrupted = (length (j .bytes) < count) × (j .ends ≡ Refused row.Corrupted)

@@ -60,7 +60,7 @@ chunk-first page o r s k e =
     subst (λ (x : ℕ). GoodChunk page o (record { offset = x; len = s .len; crc = s .crc })) (sym (k .at))
     (record { earlier = []; walked = w; sum = f .1 })
 
--- and what stands behind a chunk of the walk is the walk's next one
+-- the chunk behind a chunk of the walk is the walk's next one
 chunk-next : (page : List ℕ) (o : ℕ) (c : Chunk) (r s : PageReader) → GoodChunk page o c → Arriving page r (nextOffset (c .offset) (c .len)) s
     → s .ended ≡ false → GoodChunk page o (ownChunk s)
 chunk-next page o c r s g k e =
@@ -214,7 +214,7 @@ over-parts (b ∷ bytes) (x ∷ xs) n e =
     let z : n ≡ suc m = omega arith in
     rw z (ap (λ (l : List ℕ). b ∷ l) (over-parts bytes xs m refl))
 
--- so many bytes of what is left of a payload lie within it
+-- n bytes of what is left of a payload lie within the payload
 rest-covers : (page : List ℕ) (o len position n : ℕ) → n ≤ length (drop position (payloadAt page o len)) → 1 ≤ n → position + n ≤ len
 rest-covers page o len position n h some =
     let payload = payloadAt page o len in

@@ -61,7 +61,7 @@ fn place_in(line: &[u8]) -> Number {
     place(page, offset)
 }
 
-// Whether so many bytes from a place on are there.
+// Whether `count` bytes from a place on are there.
 fn fits(end: usize, at: usize, count: usize) -> bool {
     (at <= end) & (count <= less(end, at))
 }
@@ -77,7 +77,7 @@ fn wipe_at(flash: &mut [u8], at: usize, count: usize, value: u8) {
     wipe(&mut flash[start..end], value);
 }
 
-// A new flash of so many bytes, all erased.
+// A new flash of `length` bytes, all erased.
 fn made(len: usize, flash: &mut [u8], length: usize) -> Reply {
     if flash.len() < length {
         return no_call(len);
@@ -198,7 +198,7 @@ fn on_flash(len: usize, line: &[u8], flash: &mut [u8]) -> Reply {
     no_call(len)
 }
 
-// Answers a line that starts with `flash` or `crc`, on a flash of so many bytes at the start of a buffer.
+// Answers a line that starts with `flash` or `crc`, on a flash of `len` bytes at the start of a buffer.
 pub fn answer(len: usize, line: &[u8], flash: &mut [u8]) -> Reply {
     if same(word_at(line, 0), b"crc") {
         return sums::answer(len, line);

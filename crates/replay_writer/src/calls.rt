@@ -295,7 +295,7 @@ fn on_flash(w: State, line: &[u8], flash: &mut [u8]) -> Reply {
     on_writer(w, name, words, line)
 }
 
-// Answers a line that starts with `writer`, on a flash of so many bytes at the start of a buffer.
+// Answers a line that starts with `writer`, on a flash of `len` bytes at the start of a buffer.
 pub fn answer(w: State, line: &[u8], len: usize, flash: &mut [u8]) -> Reply {
     let n = least(len, flash.len());
     on_flash(w, line, &mut flash[..n])

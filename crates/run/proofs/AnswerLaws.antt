@@ -15,6 +15,6 @@ as-told r t e = ap (λ (s : Bool). record { deleted = s; key = r .key; value = r
 pub record-told : (r other : Record) → r ≡ recordOr other (headTold (head.Record r))
 record-told r other = as-told r _ (flag-back (r .deleted))
 
--- and another stays as it is
+-- where no record is told, the other one is handed out as it is
 pub other-told : (other : Record) → other ≡ recordOr other (answered [])
 other-told other = as-told other _ (flag-back (other .deleted))

@@ -17,7 +17,7 @@ use Rattle.run.specs.declared.record.Head.the-variants as head
 use Rattle.run.specs.declared.record.KindVerdict.{KindVerdict}
 use Rattle.run.specs.declared.record.KindVerdict.the-variants as verdict
 
--- the header has so many bytes
+-- where a record lies, whose header has `size` bytes
 pub record Lies (size : ℕ) (run : List ℕ) (at : ℕ) (r : Record) : Type 0 where
   pub header : at + size ≡ r .key
   pub key : r .key ≤ r .value

@@ -40,7 +40,7 @@ abbrev pub placed : Bool → ℕ → ℕ → ℕ → Record
 placed deleted at k v =
     record { deleted = deleted; key = at; value = at + k; next = at + k + v }
 
--- key length, value length, end of run; the header has so many bytes
+-- key length, value length, end of run, of a record whose header has `size` bytes
 unfoldable pub bodyAt : ℕ → List ℕ → ℕ → Bool → Head
 bodyAt size run at deleted =
     cond (ltb maxKeySize (keyLen run at)) (head.Refused Corrupted)

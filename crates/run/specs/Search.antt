@@ -36,7 +36,7 @@ soughtHead head.Nothing run bound lower at later = Gone
 soughtHead (head.Record r) run bound lower at later = soughtBy (compareKeys (keyIn run r) lower) bound at (r .next) later
 soughtHead (head.Refused why) run bound lower at later = Refused why
 
--- at most so many heads from a position on
+-- the search over at most `heads` heads, from a position on
 unfoldable pub soughtFrom : ℕ → List ℕ → Bound → List ℕ → ℕ → Sought
 soughtFrom zero run bound lower at = Gone
 soughtFrom (suc heads) run bound lower at =

@@ -41,7 +41,7 @@ word-bytesOf (suc k) n h =
     let w : word (bytesOf k (n / 256)) ≡ n / 256 = word-bytesOf k (n / 256) (omega arith) in
     rw w (omega arith)
 
--- and what is read is written again
+-- bytes that are read as a number are written again from it
 pub bytesOf-word : (bs : List ℕ) → Bytes bs → bytesOf (length bs) (word bs) ≡ bs
 unfolding word bytesOf
 bytesOf-word [] h = refl

@@ -23,7 +23,7 @@ maxValueSize = 1024
 abbrev pub branchingFactor : ℕ
 branchingFactor = 2
 
--- a file of each level has branchingFactor times the pages of one of the level below: so many levels make a full flash
+-- how many levels make a full flash, where a file has branchingFactor times the pages of a file of the level below
 abbrev pub levelCount : ℕ
 levelCount = 8
 

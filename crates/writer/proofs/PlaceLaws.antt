@@ -44,7 +44,7 @@ length-bufferOf w bytes = length-over (drop (toGroup w (length bytes) + toWhole 
 pub group-done : (p n : ℕ) → ((p + 3) / 4 * 4 - p ≡ 0 → ⊥) → (p + 3) / 4 * 4 - p ≤ n → p - p % 4 + 4 ≡ p + min ((p + 3) / 4 * 4 - p) n
 group-done p n f g = omega arith
 
--- and where it lacks none
+-- where the group lacks none
 pub group-none : (p n : ℕ) → (p + 3) / 4 * 4 - p ≡ 0 → p - p % 4 ≡ p + min ((p + 3) / 4 * 4 - p) n
 group-none p n f = omega arith
 

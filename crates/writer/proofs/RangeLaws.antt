@@ -73,7 +73,7 @@ taken-room w bytes n =
     least : (o p l t : ℕ) → o + 8 + p + t ≤ 4096 → p + t ≤ 4076 → p + min t l ≤ min 4076 (4096 - 8 - o)
     least o p l t f g = omega arith
 
--- and is some
+-- where bytes are taken, some are pending
 pub taken-some : (w : PageWriter) (bytes : List ℕ) → (takes (length bytes) w ≡ 0 → ⊥) → w .pending + length (takenOf w bytes) ≡ 0 → ⊥
 taken-some w bytes n z = n (least (length bytes) (w .pending) (takes (length bytes) w) (omega arith) (rw length-take at z))
   where

@@ -16,7 +16,7 @@ use Rattle.writer.specs.declared.answers.Ended.{Ended}
 use Rattle.writer.specs.declared.answers.Opened.{Opened}
 use Rattle.writer.specs.declared.page_writer.PageWriter.{PageWriter}
 
--- a call with its arguments; the power comes back with an opening, for so many stores
+-- a call with its arguments; an opening has its h and the number of stores for which the power is back
 pub data Call : Type 0 where
   openPage openAppend : ℕ → ℕ → Call
   writeHeader : ℕ → List ℕ → Call

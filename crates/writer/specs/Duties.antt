@@ -31,7 +31,7 @@ abbrev pub headingDuty : ℕ → List ℕ → PageWriter → ℕ → List ℕ �
 headingDuty e flash w magic header =
     record { verdict = headingVerdict (length flash) w (length header); ops = headerOps e w magic header; next = headed w }
 
--- ---- what one comes to, where so many stores are left
+-- ---- what one comes to, where `left` stores are left
 
 -- the answer, the writer and the stores left
 abbrev pub handsBack : Duty → PageWriter → ℕ → Ended

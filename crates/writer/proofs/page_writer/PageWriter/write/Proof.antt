@@ -50,7 +50,7 @@ known c = sound (start c .args .self) (passed c .state)
 takes-requires : tie.Need-takes-requires
 takes-requires c κs = let k = known c in (k .within, small _ k)
 
--- so many bytes are taken that the chunk is not too long
+-- with the bytes that are taken the chunk is not too long
 fits : (c : tie.After-takes)
     → start (c .before) .args .self .pending + length (take (c .takes .result) (start (c .before) .args .bytes .now)) ≤ maxChunkSize
 fits c =
