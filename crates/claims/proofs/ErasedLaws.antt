@@ -1,21 +1,23 @@
--- After a reopening every store of write and commit lies on bytes that read as erased just before it, whatever the calls, write_header
--- and refused ones among them. The page header goes over what is there, and ends before those bytes. Assumes nothing.
+-- After a reopening every store of write and commit lies within the page, on bytes that read as erased just before it, whatever the calls,
+-- write_header and refused ones among them. The page header goes over what is there, and ends before those bytes. Assumes nothing.
 use mathlib.Core.Path.{_≡_, refl, sym, ap, subst, _∙_}
 use mathlib.Core.Bool.{Bool, true, false, cond}
 use mathlib.Core.List.{List, [], _∷_}
 use mathlib.Core.Logic.{⊎-elim}
-use Prim.Native.Nat.{ℕ, _-_, _≤_, _<_}
+use Prim.Native.Nat.{ℕ, _-_, _/_, _≤_, _<_}
 use native.Mathlib.Omega.{arith}
 use lib.Dec.{eqb, leb}
 use lib.ListN.{length, take}
 use lib.Seq.{take-all}
-use borrow.Author.Tests.{le-leb, lt-leb}
+use borrow.Author.Tests.{ltb-true, le-leb, lt-leb}
+use Rattle.types.specs.Build.{pageSize}
 use Rattle.types.specs.declared.page_id.PageID.{PageID}
 use Rattle.types.specs.declared.refusal.Verdict.{Verdict}
 use Rattle.types.specs.declared.refusal.Verdict.the-variants as verdict
 use Rattle.types.proofs.TestLaws.{le-or-lt}
-use Rattle.flash.specs.Geometry.{pageStart, pageOf}
+use Rattle.flash.specs.Geometry.{hasPage, pageStart, pageOf}
 use Rattle.flash.specs.Operations.{Op, applied}
+use Rattle.flash.proofs.GeometryLaws.{page-inside, length-page}
 use Rattle.flash.proofs.PageLaws.{page-applied}
 use Rattle.writer.specs.Commits.{nextChunk}
 use Rattle.writer.specs.Duties.{Duty, handsBack, leaves}
@@ -24,7 +26,7 @@ use Rattle.writer.specs.Outcomes.{ended, endedFlash, endedOps}
 use Rattle.writer.specs.States.{inRange}
 use Rattle.types.specs.declared.answers.Outcome.the-variants.{Done}
 use Rattle.writer.specs.declared.page_writer.PageWriter.{PageWriter}
-use Rattle.writer.proofs.CheckLaws.{sound}
+use Rattle.writer.proofs.CheckLaws.{Passed, writer-passed, heading-passed, sound}
 use Rattle.writer.proofs.CleanLaws.{Clean, append-clean, write-clean, commit-clean, heading-clean}
 use Rattle.writer.proofs.RangeLaws.{write-range, commit-range, heading-range, append-range}
 use Rattle.writer.proofs.StoreLaws.{lands-take}
@@ -47,12 +49,24 @@ call-range e (writes bytes) xs w r = write-range w bytes r
 call-range e commits xs w r = commit-range w r
 call-range e (heads magic header) xs w r = heading-range w ∙ r
 
+-- a call that no check refuses has a whole page
+call-whole : (e : ℕ) (call : AddCall) (xs : List ℕ) (w : PageWriter) → dutyOf e call xs w .verdict ≡ verdict.Fine → length (pageOf (w .page .0) xs) ≡ pageSize
+call-whole e call xs w v = there (passed call v .place)
+  where
+    passed : (call : AddCall) → dutyOf e call xs w .verdict ≡ verdict.Fine → Passed (length xs) w
+    passed (writes bytes) v = writer-passed (length xs) w v
+    passed commits v = writer-passed (length xs) w v
+    passed (heads magic header) v = heading-passed (length xs) w (length header) v .0
+
+    there : hasPage (length xs) (w .page .0) ≡ true → length (pageOf (w .page .0) xs) ≡ pageSize
+    there t = length-page (pageStart (w .page .0)) xs (page-inside (length xs) (w .page .0) (ltb-true (w .page .0) (length xs / 4096) t))
+
 -- what a call that no check refuses owes lies where it may, and leaves a clean page
-call-clean : (e : ℕ) (call : AddCall) (xs : List ℕ) (w : PageWriter) (p : List ℕ) → inRange w ≡ true → Clean e w p → dutyOf e call xs w .verdict ≡ verdict.Fine
+call-clean : (e : ℕ) (call : AddCall) (xs : List ℕ) (w : PageWriter) (p : List ℕ) → inRange w ≡ true → length p ≡ pageSize → Clean e w p → dutyOf e call xs w .verdict ≡ verdict.Fine
     → LandsBy e call (dutyOf e call xs w .ops) p × Clean e (dutyOf e call xs w .next) (applied 0 (dutyOf e call xs w .ops) p)
-call-clean e (writes bytes) xs w p r c v = write-clean e w bytes p (sound w r .even) c
-call-clean e commits xs w p r c v = commit-clean e w p (sound w r .even) c
-call-clean e (heads magic header) xs w p r c v = (tt, heading-clean (length xs) e w magic header p v c)
+call-clean e (writes bytes) xs w p r whole c v = write-clean e w bytes p (sound w r) whole c
+call-clean e commits xs w p r whole c v = commit-clean e w p (sound w r) whole c
+call-clean e (heads magic header) xs w p r whole c v = (tt, heading-clean (length xs) e w magic header p v c)
 
 -- so do the first ones, which a cut leaves, and none at all
 call-take : (e : ℕ) (call : AddCall) (k : ℕ) (ops : List Op) (p : List ℕ) → LandsBy e call ops p → LandsBy e call (take k ops) p
@@ -108,7 +122,8 @@ module _ (e : ℕ) (call : AddCall) (calls : List AddCall) (w : PageWriter) (lef
 
   next-clean : duty .verdict ≡ verdict.Fine → length ops ≤ left → Clean e (duty .next) (pageOf (duty .next .page .0) ys)
   next-clean v all =
-      subst (λ (p : List ℕ). Clean e (duty .next) p) (sym (next-page ∙ ap (λ (l : List Op). applied 0 l page) (take-all left ops all))) (call-clean e call xs w page r c v .1)
+      subst (λ (p : List ℕ). Clean e (duty .next) p) (sym (next-page ∙ ap (λ (l : List Op). applied 0 l page) (take-all left ops all)))
+      (call-clean e call xs w page r (call-whole e call xs w v) c v .1)
 
   -- all are made, and the page is clean; or the call is cut, and none is left
   later-land : duty .verdict ≡ verdict.Fine → Later (leb (length ops) left)
@@ -121,7 +136,7 @@ module _ (e : ℕ) (call : AddCall) (calls : List AddCall) (w : PageWriter) (lef
   call-lands : (v : Verdict) → duty .verdict ≡ v
       → LandsBy e call (endedOps v ops left) page × AllLand e (callsMake e calls (ended v ops (duty .next) w left .writer) (ended v ops (duty .next) w left .left) (endedFlash v ops w left xs))
   call-lands (verdict.Refused why) q = (call-none e call page, further w left xs r c)
-  call-lands verdict.Fine q = (call-take e call left ops page (call-clean e call xs w page r c q .0), later-land q)
+  call-lands verdict.Fine q = (call-take e call left ops page (call-clean e call xs w page r (call-whole e call xs w q) c q .0), later-land q)
 
 all-land : (e : ℕ) (calls : List AddCall) (w : PageWriter) (left : ℕ) (xs : List ℕ) → inRange w ≡ true → Clean e w (pageOf (w .page .0) xs) → AllLand e (callsMake e calls w left xs)
 unfolding callsMake
@@ -129,7 +144,7 @@ all-land e [] w left xs r c = tt
 all-land e (call ∷ calls) w left xs r c = call-lands e call calls w left xs r c (λ v n ys. all-land e calls v n ys) (dutyOf e call xs w .verdict) refl
 
 -- WRITES ON ERASED: after a reopening, whatever the calls, with any number of stores allowed in all, each store that write or commit
--- makes lies on bytes of the page that read as erased just before it
+-- makes lies within the page, on bytes that read as erased just before it
 pub writes-on-erased : (e : ℕ) (xs : List ℕ) (page : PageID) (h : ℕ) (w : PageWriter) (k : ℕ) (calls : List AddCall) → appended e xs page h w k .answer ≡ Done
     → AllLand e (callsMake e calls (appended e xs page h w k .writer) (appended e xs page h w k .left) xs)
 writes-on-erased e xs page h w k calls a =

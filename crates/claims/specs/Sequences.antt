@@ -64,7 +64,7 @@ abbrev pub allOps : List Making → List Op
 allOps [] = []
 allOps (m ∷ ms) = m .ops ++ allOps ms
 
--- each store of write and commit lies on bytes that read as erased just before it; the page header goes over what is there
+-- each store of write and commit lies within the page, on bytes that read as erased just before it; the page header goes over what is there
 abbrev pub LandsBy : ℕ → AddCall → List Op → List ℕ → Type 0
 LandsBy e (writes bytes) ops page = Lands e ops page
 LandsBy e commits ops page = Lands e ops page

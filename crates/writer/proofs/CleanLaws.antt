@@ -1,4 +1,4 @@
--- A writer that was opened to add stores on erased bytes alone: its places are erased when it is opened, and its own calls keep the
+-- A writer that was opened to add stores within its page, on erased bytes alone: its places are erased when it is opened, and its own calls keep the
 -- later ones so, until one is refused. The page header is the one store that goes over what is there; it ends before those places.
 -- Assumes nothing.
 use mathlib.Core.Path.{_≡_, refl, sym, ap, subst, _∙_}
@@ -21,6 +21,7 @@ use Rattle.flash.specs.Geometry.{pageOf}
 use Rattle.flash.specs.Operations.{Op, erase, store, opIf, applied}
 use Rattle.slices.specs.Patch.{blank}
 use Rattle.flash.proofs.OperationLaws.{applied-append}
+use Rattle.flash.proofs.PageLaws.{length-applied}
 use Rattle.slices.proofs.PatchLaws.{getD-blank}
 use Rattle.page.specs.Chunks.{nextOffset}
 use Rattle.page.specs.Headers.{pageHeader}
@@ -38,8 +39,10 @@ use Rattle.writer.specs.Verdicts.{headingVerdict, openVerdict}
 use Rattle.writer.specs.Writes.{takes, grown, isFull, closeOps, closed, payloadOps, takingOps, takenOf, writeOps, written}
 use Rattle.types.specs.declared.answers.Outcome.the-variants.{Done}
 use Rattle.writer.specs.declared.page_writer.PageWriter.{PageWriter}
-use Rattle.writer.proofs.CheckLaws.{heading-passed, sound}
+use Rattle.writer.proofs.CheckLaws.{Sound, heading-passed, sound}
+use Rattle.writer.proofs.LiesOnLaws.{in-page}
 use Rattle.writer.proofs.PlaceLaws.{taking-unarmed, length-bufferOf, payload-rising, rest-rising}
+use Rattle.writer.proofs.RangeLaws.{taken-room, taken-some}
 use Rattle.writer.proofs.StoreLaws.{Rising, lands-append, rising-lands, erased-below, erased-behind}
 
 -- on page p the chunk's header is still to come, and nothing is stored from the group that is not finished on
@@ -87,13 +90,18 @@ append-clean e xs page h w left = by (openVerdict (length xs) (page .0) h) (walk
 next-up : (o p : ℕ) → o % 4 ≡ 0 → (o + 8 ≤ o + 8 + (p - p % 4)) × ((o + 8 + (p - p % 4) ≤ (o + 8 + p + 3) / 4 * 4) × (o + 8 ≤ (o + 8 + p + 3) / 4 * 4))
 next-up o p e = (omega arith, (omega arith, omega arith))
 
+-- a chunk that fits into a page ends within it, its padding too
+chunk-end : (o p long : ℕ) → long ≡ 4096 → o + 8 + p ≤ 4096 → (o + 8 ≤ long) × ((o + 8 + p + 3) / 4 * 4 ≤ long)
+chunk-end o p long whole fits = (omega arith, omega arith)
+
 seal-rising : (w : PageWriter) → Rising (w .offset) (w .offset + chunkHeaderSize) (sealOp w ∷ [])
 seal-rising w = (le-refl (w .offset), rw (length-chunkHeader (w .pending) (finished (w .crc))) (le-refl (w .offset + 8)))
 
-chunk-clean : (e : ℕ) (w : PageWriter) (p : List ℕ) → w .offset % align ≡ 0 → Clean e w p
+chunk-clean : (e : ℕ) (w : PageWriter) (p : List ℕ) → w .offset % align ≡ 0 → length p ≡ pageSize → w .offset + chunkHeaderSize + w .pending ≤ pageSize → Clean e w p
     → Lands e (chunkOps e w) p × Clean e (nextChunk w) (applied 0 (chunkOps e w) p)
 unfolding chunkOps
-chunk-clean e w p even c =
+chunk-clean e w p even whole fits c =
+    let inside = chunk-end (w .offset) (w .pending) (length p) whole fits in
     let up = next-up (w .offset) (w .pending) even in
     let next = nextOffset (w .offset) (w .pending) in
     let r = rest-rising w (c .four) even in
@@ -104,17 +112,18 @@ chunk-clean e w p even c =
     (erased-behind e a b (groupAt w) next (restOps w) p h r (λ i f g. c .rest b i (omega arith) g)) in
     rw (c .unarmed, applied-append 0 (restOps w) (sealOp w ∷ []) p) (
       lands-append e (restOps w) (sealOp w ∷ []) p
-          (rising-lands e (groupAt w) next (restOps w) p (c .rest next) r)
-          (rising-lands e (w .offset) (w .offset + 8) (sealOp w ∷ []) p₁ (erased-below e (w .offset) (w .offset + 8) (groupAt w) next (restOps w) p (up .0) r (c .head)) s),
+          (rising-lands e (groupAt w) next (restOps w) p (inside .1) (c .rest next) r)
+          (rising-lands e (w .offset) (w .offset + 8) (sealOp w ∷ []) p₁ (rw (length-applied 0 (restOps w) p) (inside .0))
+          (erased-below e (w .offset) (w .offset + 8) (groupAt w) next (restOps w) p (up .0) r (c .head)) s),
       record { unarmed = refl; four = c .four; head = later next (next + 8) (le-refl next); rest = λ b. later (next + 8 + 0) b (omega arith) },
     )
 
-pub commit-clean : (e : ℕ) (w : PageWriter) (p : List ℕ) → w .offset % align ≡ 0 → Clean e w p
+pub commit-clean : (e : ℕ) (w : PageWriter) (p : List ℕ) → Sound w → length p ≡ pageSize → Clean e w p
     → Lands e (commitOps e w) p × Clean e (committed w) (applied 0 (commitOps e w) p)
-commit-clean e w p even c =
+commit-clean e w p s whole c =
     ⊎-elim
     (λ (z : w .pending ≡ 0). rw (eq-eqb (w .pending) 0 z) (tt, c))
-    (λ (n : w .pending ≡ 0 → ⊥). rw (ne-eqb (w .pending) 0 n) (chunk-clean e w p even c))
+    (λ (n : w .pending ≡ 0 → ⊥). rw (ne-eqb (w .pending) 0 n) (chunk-clean e w p (s .even) whole (in-page (w .offset) (w .pending) (s .room) n) c))
     (eq-or-ne (w .pending) 0)
 
 -- ---- write
@@ -122,13 +131,16 @@ commit-clean e w p even c =
 group-up : (o p n : ℕ) → (o + 8 ≤ o + 8 + (p - p % 4)) × (o + 8 + (p - p % 4) ≤ o + 8 + (p + n - (p + n) % 4))
 group-up o p n = (omega arith, omega arith)
 
-grown-clean : (e : ℕ) (w : PageWriter) (bytes p : List ℕ) → Clean e w p
+group-end : (o p long : ℕ) → long ≡ 4096 → o + 8 + p ≤ 4096 → o + 8 + (p - p % 4) ≤ long
+group-end o p long whole fits = omega arith
+
+grown-clean : (e : ℕ) (w : PageWriter) (bytes p : List ℕ) → length p ≡ pageSize → w .offset + chunkHeaderSize + (w .pending + length bytes) ≤ pageSize → Clean e w p
     → Lands e (payloadOps w bytes) p × Clean e (grown w bytes) (applied 0 (payloadOps w bytes) p)
-grown-clean e w bytes p c =
+grown-clean e w bytes p whole fits c =
     let g = groupAt (grown w bytes) in
     let up = group-up (w .offset) (w .pending) (length bytes) in
     let r = payload-rising w bytes (c .four) in (
-      rising-lands e (groupAt w) g (payloadOps w bytes) p (c .rest g) r,
+      rising-lands e (groupAt w) g (payloadOps w bytes) p (group-end (w .offset) (w .pending + length bytes) (length p) whole fits) (c .rest g) r,
       record {
         unarmed = refl;
         four = length-bufferOf w bytes ∙ c .four;
@@ -137,27 +149,29 @@ grown-clean e w bytes p c =
       },
     )
 
-close-clean : (e : ℕ) (w : PageWriter) (p : List ℕ) → w .offset % align ≡ 0 → Clean e w p
+close-clean : (e : ℕ) (w : PageWriter) (p : List ℕ) → w .offset % align ≡ 0 → length p ≡ pageSize → w .offset + chunkHeaderSize + w .pending ≤ pageSize → Clean e w p
     → Lands e (closeOps e w) p × Clean e (closed w) (applied 0 (closeOps e w) p)
-close-clean e w p even c =
-    ⊎-elim (λ (f : isFull w ≡ true). rw f (chunk-clean e w p even c)) (λ (f : isFull w ≡ false). rw f (tt, c)) (decided (isFull w))
+close-clean e w p even whole fits c =
+    ⊎-elim (λ (f : isFull w ≡ true). rw f (chunk-clean e w p even whole fits c)) (λ (f : isFull w ≡ false). rw f (tt, c)) (decided (isFull w))
 
-taking-clean : (e : ℕ) (w : PageWriter) (bytes p : List ℕ) → w .offset % align ≡ 0 → Clean e w p
+taking-clean : (e : ℕ) (w : PageWriter) (bytes p : List ℕ) → w .offset % align ≡ 0 → length p ≡ pageSize
+    → w .offset + chunkHeaderSize + (w .pending + length bytes) ≤ pageSize → Clean e w p
     → Lands e (takingOps e w bytes) p × Clean e (closed (grown w bytes)) (applied 0 (takingOps e w bytes) p)
-taking-clean e w bytes p even c =
-    let a = grown-clean e w bytes p c in
-    let b = close-clean e (grown w bytes) (applied 0 (payloadOps w bytes) p) even (a .1) in
+taking-clean e w bytes p even whole fits c =
+    let a = grown-clean e w bytes p whole fits c in
+    let b = close-clean e (grown w bytes) (applied 0 (payloadOps w bytes) p) even (length-applied 0 (payloadOps w bytes) p ∙ whole) fits (a .1) in
     rw (taking-unarmed e w bytes (c .unarmed)) (
       lands-append e (payloadOps w bytes) (closeOps e (grown w bytes)) p (a .0) (b .0),
       subst (λ (q : List ℕ). Clean e (closed (grown w bytes)) q) (sym (applied-append 0 (payloadOps w bytes) (closeOps e (grown w bytes)) p)) (b .1),
     )
 
-pub write-clean : (e : ℕ) (w : PageWriter) (bytes p : List ℕ) → w .offset % align ≡ 0 → Clean e w p
+pub write-clean : (e : ℕ) (w : PageWriter) (bytes p : List ℕ) → Sound w → length p ≡ pageSize → Clean e w p
     → Lands e (writeOps e w bytes) p × Clean e (written w bytes) (applied 0 (writeOps e w bytes) p)
-write-clean e w bytes p even c =
+write-clean e w bytes p s whole c =
     ⊎-elim
     (λ (z : takes (length bytes) w ≡ 0). rw (eq-eqb (takes (length bytes) w) 0 z) (tt, c))
-    (λ (n : takes (length bytes) w ≡ 0 → ⊥). rw (ne-eqb (takes (length bytes) w) 0 n) (taking-clean e w (takenOf w bytes) p even c))
+    (λ (n : takes (length bytes) w ≡ 0 → ⊥). rw (ne-eqb (takes (length bytes) w) 0 n)
+    (taking-clean e w (takenOf w bytes) p (s .even) whole (in-page (w .offset) (w .pending + length (takenOf w bytes)) (taken-room w bytes n) (taken-some w bytes n)) c))
     (eq-or-ne (takes (length bytes) w) 0)
 
 -- ---- write_header

@@ -92,7 +92,7 @@ closing-lies e m n w next bytes lie grows long =
 -- ---- the calls, where the checks have passed
 
 -- a chunk with some bytes in range ends within the page
-in-page : (o p : ℕ) → p ≤ min 4076 (4096 - 8 - o) → (p ≡ 0 → ⊥) → o + 8 + p ≤ 4096
+pub in-page : (o p : ℕ) → p ≤ min 4076 (4096 - 8 - o) → (p ≡ 0 → ⊥) → o + 8 + p ≤ 4096
 in-page o p room some = omega arith
 
 pub commit-lies : (e n : ℕ) (w : PageWriter) → Passed n w → length (w .buf) ≡ align → (w .pending ≡ 0 → ⊥)

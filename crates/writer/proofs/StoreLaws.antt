@@ -9,6 +9,7 @@ use lib.ListN.{length, take, drop, getD, length-take}
 use lib.Seq.{getD-take, getD-drop}
 use Rattle.types.specs.Build.{pageSize}
 use Rattle.flash.specs.Operations.{Op, erase, store, opIf, made, applied}
+use Rattle.flash.proofs.PageLaws.{length-made}
 use Rattle.slices.specs.Patch.{patch}
 use Rattle.slices.proofs.PatchLaws.{patch-above, take-patch-below, drop-patch-above}
 use Rattle.page.proofs.BelowLaws.{take-below, drop-above}
@@ -78,28 +79,32 @@ rising-behind a b (store at bytes ∷ ops) p r =
 pub lands-append : (e : ℕ) (xs ys : List Op) (p : List ℕ) → Lands e xs p → Lands e ys (applied 0 xs p) → Lands e (xs ++ ys) p
 lands-append e [] ys p l m = m
 lands-append e (erase v ∷ xs) ys p l m = l
-lands-append e (store at bytes ∷ xs) ys p l m = (l .0, lands-append e xs ys (made 0 (store at bytes) p) (l .1) m)
+lands-append e (store at bytes ∷ xs) ys p l m = (l .0, (l .1 .0, lands-append e xs ys (made 0 (store at bytes) p) (l .1 .1) m))
 
 -- so do the first ones, which a cut leaves
 pub lands-take : (e k : ℕ) (ops : List Op) (p : List ℕ) → Lands e ops p → Lands e (take k ops) p
 lands-take e zero ops p l = tt
 lands-take e (suc k) [] p l = tt
 lands-take e (suc k) (erase v ∷ ops) p l = l
-lands-take e (suc k) (store at bytes ∷ ops) p l = (l .0, lands-take e k ops (made 0 (store at bytes) p) (l .1))
+lands-take e (suc k) (store at bytes ∷ ops) p l = (l .0, (l .1 .0, lands-take e k ops (made 0 (store at bytes) p) (l .1 .1)))
 
-pub rising-lands : (e a b : ℕ) (ops : List Op) (p : List ℕ) → Erased e a b p → Rising a b ops → Lands e ops p
-rising-lands e a b [] p h r = tt
-rising-lands e a b (erase v ∷ ops) p h r = r
-rising-lands e a b (store at bytes ∷ ops) p h r =
+-- stores up to an end in the page
+pub rising-lands : (e a b : ℕ) (ops : List Op) (p : List ℕ) → b ≤ length p → Erased e a b p → Rising a b ops → Lands e ops p
+rising-lands e a b [] p end h r = tt
+rising-lands e a b (erase v ∷ ops) p end h r = r
+rising-lands e a b (store at bytes ∷ ops) p end h r =
     let low = r .0 in
     let t = rising-le (at + length bytes) b ops (r .1) in (
-      λ i f g. h i (omega arith) (omega arith),
-      rising-lands e (at + length bytes) b ops (made 0 (store at bytes) p)
-          (λ i f g.
-          ap (λ (l : List ℕ). getD l i e) (made-store at bytes p)
-          ∙ patch-above at (take (4096 - at) bytes) p i e (let l = cut-length (4096 - at) bytes in omega arith)
-          ∙ h i (omega arith) g)
-          (r .1),
+      omega arith,
+      (
+        λ i f g. h i (omega arith) (omega arith),
+        rising-lands e (at + length bytes) b ops (made 0 (store at bytes) p) (rw (length-made 0 (store at bytes) p) end)
+            (λ i f g.
+            ap (λ (l : List ℕ). getD l i e) (made-store at bytes p)
+            ∙ patch-above at (take (4096 - at) bytes) p i e (let l = cut-length (4096 - at) bytes in omega arith)
+            ∙ h i (omega arith) g)
+            (r .1),
+      ),
     )
 
 -- erased bytes before and behind stay so
