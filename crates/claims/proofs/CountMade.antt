@@ -8,14 +8,14 @@ use lib.ListN.{length, take, length-take, length-append}
 use Rattle.types.specs.declared.page_id.PageID.{PageID}
 use Rattle.types.specs.declared.refusal.Verdict.{Verdict}
 use Rattle.types.specs.declared.refusal.Verdict.the-variants.{Fine, Refused}
-use Rattle.flash.specs.Geometry.{pageOf}
-use Rattle.flash.specs.Operations.{Op}
+use Rattle.flash.specs.Geometry.{pageStart, pageOf}
+use Rattle.flash.specs.Operations.{Op, applied}
 use Rattle.page.specs.Walks.{walkEnd}
 use Rattle.page.specs.declared.walk.Ending.{Ending}
 use Rattle.page.specs.declared.walk.Ending.the-variants.{EndAt, Corrupted}
-use Rattle.writer.specs.Duties.{Duty, handsBack, makes}
+use Rattle.writer.specs.Duties.{Duty, handsBack, leaves, makes}
 use Rattle.writer.specs.Openings.{openAs, openedAfter, opened, appendedAt, appended}
-use Rattle.writer.specs.Outcomes.{ended, endedOps}
+use Rattle.writer.specs.Outcomes.{ended, endedFlash, endedOps}
 use Rattle.writer.specs.States.{firstChunk, fresh}
 use Rattle.writer.specs.Verdicts.{openVerdict}
 use Rattle.writer.specs.declared.page_writer.PageWriter.{PageWriter}
@@ -28,6 +28,14 @@ count-made d w left = by (d .verdict)
     by : (v : Verdict) → ended v (d .ops) (d .next) w left .left + length (endedOps v (d .ops) left) ≡ left
     by (Refused why) = omega arith
     by Fine = ap (λ (n : ℕ). left - length (d .ops) + n) (length-take left (d .ops)) ∙ omega arith
+
+-- LEAVES MADE: and those are the operations that the flash shows: it is the flash at entry after them, in their order
+pub leaves-made : (d : Duty) (w : PageWriter) (left : ℕ) (xs : List ℕ) → leaves d w left xs ≡ applied (pageStart (w .page .0)) (makes d left) xs
+leaves-made d w left xs = by (d .verdict)
+  where
+    by : (v : Verdict) → endedFlash v (d .ops) w left xs ≡ applied (pageStart (w .page .0)) (endedOps v (d .ops) left) xs
+    by (Refused why) = refl
+    by Fine = refl
 
 -- any number of calls, one after the other
 pub counts-made : (e : ℕ) (calls : List AddCall) (w : PageWriter) (left : ℕ) (xs : List ℕ)
