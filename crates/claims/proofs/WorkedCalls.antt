@@ -3,7 +3,9 @@
 use mathlib.Core.Bool.{false}
 use mathlib.Core.Path.{_≡_, refl, ap, subst, _∙_}
 use mathlib.Core.List.{List, [], _∷_, map}
-use Prim.Native.Nat.{ℕ, _+_}
+use mathlib.Core.Logic.{inr}
+use Prim.Native.Nat.{ℕ, _+_, _≤_}
+use native.Mathlib.Nat.{le-refl}
 use native.Mathlib.Omega.{arith}
 use lib.ListN.{length, getD}
 use Rattle.types.specs.Build.{eraseValue}
@@ -14,6 +16,7 @@ use Rattle.page.specs.Chunks.{chunkHeader, chunkAt}
 use Rattle.page.specs.Headers.{pageHeader}
 use Rattle.page.specs.Walks.{walk, walkFrom, allErased}
 use Rattle.writer.specs.Commits.{chunkOps}
+use Rattle.writer.specs.Duties.{commitDuty, makes}
 use Rattle.writer.specs.Headings.{headerOps}
 use Rattle.writer.specs.Openings.{appended}
 use Rattle.writer.specs.Starred.{Place, placeOf}
@@ -24,8 +27,10 @@ use Rattle.writer.specs.declared.answers.Opened.{Opened}
 use Rattle.types.specs.declared.answers.Outcome.the-variants.{Done, Refused}
 use Rattle.writer.specs.declared.page_writer.PageWriter.{PageWriter}
 use Rattle.claims.specs.Sequences.{AddCall, commits, heads, WriterLeft, called, calledAgain, Making, callsMake, callsLeave, allOps, AllLand}
+use Rattle.claims.specs.Untouched.{Uncovered}
 use Rattle.claims.specs.Worked.{workedMagic, workedPage, headedFlash, twoChunks}
 use Rattle.claims.proofs.CountMade.{counts-made}
+use Rattle.claims.proofs.Elsewhere.{elsewhere}
 use Rattle.claims.proofs.ErasedLaws.{writes-on-erased}
 use Rattle.claims.proofs.Retried.{retried, refused-again}
 
@@ -92,9 +97,15 @@ worked-retried =
     (ap (λ (l : WriterLeft). l .ended .answer) same ∙ done-at-once, ap (λ (l : WriterLeft). l .flash) same)
 
 -- byte 24 lies behind both stores, and is as it was
-pub worked-uncovered : getD (called eraseValue commits pending 2 headedFlash .flash) 24 0 ≡ getD headedFlash 24 0
+both-before : Uncovered 0 (makes (commitDuty eraseValue headedFlash pending) 2) 24
 unfolding bytesOf over patch blank pageHeader headedFlash inRange writerVerdict chunkHeader chunkOps groupOf bufferOf
-worked-uncovered = refl
+both-before =
+    let at-once : 24 ≤ 24 = le-refl 24 in
+    let later : 20 ≤ 24 = omega arith in
+    (inr at-once, (inr later, tt))
+
+pub worked-uncovered : getD (called eraseValue commits pending 2 headedFlash .flash) 24 0 ≡ getD headedFlash 24 0
+worked-uncovered = elsewhere (commitDuty eraseValue headedFlash pending) pending 2 headedFlash .uncovered 24 0 both-before
 
 -- a page header of four bytes, where the page was opened for none, is refused by 6, and again
 abbrev tooLong : AddCall

@@ -3,8 +3,9 @@
 use mathlib.Core.Bool.{xor}
 use mathlib.Core.Path.{_≡_, refl, sym, subst}
 use mathlib.Core.List.{List, [], _∷_, flatten}
-use mathlib.Core.Logic.{⊎-elim}
+use mathlib.Core.Logic.{inl, ⊎-elim}
 use Prim.Native.Nat.{ℕ}
+use native.Mathlib.Nat.{le-refl}
 use native.Mathlib.Omega.{arith}
 use lib.ListN.{length}
 use Rattle.types.specs.Bytes.{word, bytesOf}
@@ -16,7 +17,7 @@ use Rattle.page.specs.Chunks.{chunkHeader, nextOffset, chunkAt, checkedAt}
 use Rattle.page.specs.Headers.{pageHeader, pageHeaderFine}
 use Rattle.page.specs.Walks.{Chunk, walk, walkFrom}
 use Rattle.page.proofs.LaidLaws.{All}
-use Rattle.reader.specs.Calls.{openPage, openBytes, read, readBytes, skip}
+use Rattle.reader.specs.Calls.{openPage, openBytes, read, readBytes, skip, dehydrate, rehydrateFrom}
 use Rattle.reader.specs.Checks.{openVerdict, readerVerdict}
 use Rattle.reader.specs.Finds.{NotEmpty, reads}
 use Rattle.reader.specs.Moves.{moved, ready, restOf, skipBy, skipped}
@@ -24,10 +25,10 @@ use Rattle.reader.specs.States.{newReader}
 use Rattle.reader.specs.declared.answers.Count.the-variants as count
 use Rattle.reader.specs.declared.page_reader.PageReader.{PageReader}
 use Rattle.claims.specs.Again.{readerLeft}
-use Rattle.claims.specs.ReaderHistories.{atFirst, Asked, leftBy, afterCall, afterCalls, Among}
+use Rattle.claims.specs.ReaderHistories.{atFirst, Asked, leftBy, afterCall, afterCalls, Among, Covered, NoneUnchecked}
 use Rattle.claims.specs.Skips.{foundFrom, SkipIsRead}
 use Rattle.claims.specs.Worked.{workedMagic, workedPage, chunkOfOne}
-use Rattle.claims.specs.WorkedReads.{twoChunkFlash, emptyBetweenFlash, damagedFlash, openIt, readTwo}
+use Rattle.claims.specs.WorkedReads.{twoChunkFlash, emptyBetweenFlash, damagedFlash, openIt, readTwo, keepIt, bringItBack}
 use Rattle.claims.proofs.SkipIsRead.{skip-is-read}
 
 -- ---- asked three times
@@ -38,12 +39,43 @@ Leaves before number lent =
     let left = leftBy damagedFlash (afterCalls damagedFlash atFirst before) readTwo in
     (left .number ≡ number) × (left .lent ≡ lent)
 
--- the first read puts the byte of the good chunk; the next two are refused with 1, and put nothing
+-- the first read puts the byte of the good chunk; the next three ask for the damaged one, are refused with 1, and put nothing
 pub worked-asked : Leaves (openIt ∷ []) 0 (5 ∷ 9 ∷ [])
-    × (Leaves (openIt ∷ readTwo ∷ []) 1 (8 ∷ 9 ∷ []) × Leaves (openIt ∷ readTwo ∷ readTwo ∷ []) 1 (8 ∷ 9 ∷ []))
+    × (Leaves (openIt ∷ readTwo ∷ []) 1 (8 ∷ 9 ∷ [])
+    × (Leaves (openIt ∷ readTwo ∷ readTwo ∷ []) 1 (8 ∷ 9 ∷ []) × Leaves (openIt ∷ readTwo ∷ readTwo ∷ readTwo ∷ []) 1 (8 ∷ 9 ∷ [])))
 unfolding word bytesOf crc.bits crc.number crc.message crc.among crc.terms crc.generator xor crc.plus crc.divided crc.dividend crc.remainder crc.published over blank chunkHeader
     pageHeader chunkOfOne damagedFlash pageHeaderFine chunkAt checkedAt moved ready restOf openVerdict readerVerdict openPage openBytes read readBytes readerLeft afterCall afterCalls
-worked-asked = ((refl, refl), ((refl, refl), (refl, refl)))
+worked-asked = ((refl, refl), ((refl, refl), ((refl, refl), (refl, refl))))
+
+-- that byte is covered: it is the payload of the walk's first chunk, whose sum is right
+worked-covered : Covered damagedFlash workedMagic workedPage 0 (5 ∷ [])
+unfolding word bytesOf crc.bits crc.number crc.message crc.among crc.terms crc.generator xor crc.plus crc.divided crc.dividend crc.remainder crc.published blank chunkHeader
+    pageHeader chunkOfOne damagedFlash pageHeaderFine chunkAt walk walkFrom
+worked-covered = record {
+  chunk = record { offset = 12; len = 1; crc = crc.published (5 ∷ []) };
+  position = 0;
+  header = refl;
+  walked = inl refl;
+  sum = refl;
+  within = le-refl 1;
+  are = refl;
+}
+
+-- a reader that was kept, read on, opened anew and brought back puts that byte again, and it is known where it was opened
+pub worked-kept : NoneUnchecked damagedFlash (afterCalls damagedFlash atFirst (openIt ∷ keepIt ∷ readTwo ∷ openIt ∷ bringItBack ∷ [])) readTwo
+unfolding word bytesOf crc.bits crc.number crc.message crc.among crc.terms crc.generator xor crc.plus crc.divided crc.dividend crc.remainder crc.published over blank chunkHeader
+    pageHeader chunkOfOne damagedFlash pageHeaderFine chunkAt checkedAt moved ready restOf openVerdict readerVerdict openPage openBytes read readBytes readerLeft afterCall afterCalls
+    dehydrate rehydrateFrom
+worked-kept = record {
+  puts = record { bytes = 5 ∷ []; many = refl; covered = worked-covered; put = refl };
+  refused = λ e. absurd (e refl);
+}
+
+-- a read of the damaged chunk is refused, and changes nothing
+pub worked-refusal : NoneUnchecked damagedFlash (afterCalls damagedFlash atFirst (openIt ∷ readTwo ∷ [])) readTwo
+unfolding word bytesOf crc.bits crc.number crc.message crc.among crc.terms crc.generator xor crc.plus crc.divided crc.dividend crc.remainder crc.published over blank chunkHeader
+    pageHeader chunkOfOne damagedFlash pageHeaderFine chunkAt checkedAt moved ready restOf openVerdict readerVerdict openPage openBytes read readBytes readerLeft afterCall afterCalls
+worked-refusal = record { puts = refl; refused = λ e. (refl, refl) }
 
 -- ---- a skip over a border
 

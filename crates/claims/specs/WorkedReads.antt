@@ -7,7 +7,7 @@ use Rattle.crc.specs.Published.{published}
 use Rattle.slices.specs.Patch.{blank}
 use Rattle.page.specs.Chunks.{chunkHeader}
 use Rattle.page.specs.Headers.{pageHeader}
-use Rattle.claims.specs.Again.{opens, reads}
+use Rattle.claims.specs.Again.{opens, reads, dehydrates, rehydrates}
 use Rattle.claims.specs.ReaderHistories.{Asked}
 use Rattle.claims.specs.Worked.{workedMagic, workedPage, chunkOfOne}
 
@@ -30,3 +30,10 @@ openIt = record { call = opens workedMagic workedPage; lent = [] }
 
 abbrev pub readTwo : Asked
 readTwo = record { call = reads; lent = 8 ∷ 9 ∷ [] }
+
+-- to keep the reader in slot 3, and to bring it back from there
+abbrev pub keepIt : Asked
+keepIt = record { call = dehydrates 3; lent = [] }
+
+abbrev pub bringItBack : Asked
+bringItBack = record { call = rehydrates 3; lent = [] }
