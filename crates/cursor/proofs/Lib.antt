@@ -28,3 +28,4 @@ pub mod SettleLaws
 pub mod ShowLaws
 pub mod StarredClaims
 pub mod UnionLaws
+pub mod WorkedMerge

@@ -10,3 +10,4 @@ pub mod Runs
 pub mod Settle
 pub mod Starred
 pub mod Union
+pub mod WorkedMerge
