@@ -64,8 +64,12 @@ kindCases = headCase 0 1 1 0 ∷ headCase 1 1 1 0 ∷ headCase 2 1 1 8 ∷ headC
 unfoldable pub limitCases : List HeadCase
 limitCases = headCase 0 64 1024 0 ∷ headCase 0 65 1024 1 ∷ headCase 0 64 1025 1 ∷ []
 
+-- where both are wrong, the kind is told and not the length
+unfoldable pub orderCases : List HeadCase
+orderCases = headCase 2 65 1 8 ∷ []
+
 unfoldable pub headCases : List HeadCase
-headCases = kindCases ++ limitCases
+headCases = kindCases ++ (limitCases ++ orderCases)
 
 -- a whole record of that kind and of those lengths
 unfoldable pub recordOf : HeadCase → List ℕ
