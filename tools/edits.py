@@ -121,13 +121,28 @@ def bodies(crate, file):
     return found_bodies
 
 
+def only_adds_names(old, new, text):
+    """Whether a `use` line of code keeps its names, and adds some that stand nowhere else in the file."""
+    lines = [re.fullmatch(r"use ((?:\w+::)+)(?:(\w+)|{(\w+(?:, \w+)*)});", line) for line in (old, new)]
+    if not all(lines) or lines[0].group(1) != lines[1].group(1):
+        return False
+    kept, now = [set(re.findall(r"\w+", line.group(2) or line.group(3))) for line in lines]
+    return kept <= now and not any(re.search(rf"\b{name}\b", blanked(text)) for name in now - kept)
+
+
+def without_mut(text):
+    """The text without the `mut` of a variable; that of a reference is a promise."""
+    return re.sub(r"(&(?:'\w+\s+)?)?\bmut\s+", lambda found: found.group() if found.group(1) else "", text)
+
+
 def strays(slip):
-    """What a slip of a function changes outside that function's body: None, or the text. A `use` line and a `mut` promise nothing."""
+    """What a slip of a function changes outside that function's body: None, or the text. Another name for a `use` line and a variable's
+    `mut` promise nothing."""
     for file, old, new in slip.pairs:
         path = slip.home / file
         text = path.read_text()
         at = text.find(old)
-        if at < 0 or old.startswith("use ") or old.replace("mut ", "") == new.replace("mut ", ""):
+        if at < 0 or only_adds_names(old, new, text) or without_mut(text.replace(old, new)) == without_mut(text):
             continue
         inside = [start <= at and at + len(old) <= end for name, start, end in bodies(slip.home, path) if name == slip.place]
         if not any(inside):
@@ -148,6 +163,8 @@ def read_edits(crates, problem):
             why = misplaced(slip, alone=len(slips) == 1)
             if why:
                 problem(f"{slip}", why)
+            if changes_nothing(slip):
+                problem(f"{slip}", "changes nothing: what it plants is what stands there")
             for other in slips[:at]:
                 if meet(slip, other):
                     problem(f"{slip}", f"sits in {slip.place} and meets {other.name} of the same file, which sits in {other.place}")
@@ -168,19 +185,40 @@ def misplaced(slip, alone):
     return None if alone or may_join(slip) else f"changes '{strays(slip)}', which is not in the body of {slip.place}, so it stands alone in its file"
 
 
+def changes_nothing(slip):
+    """Whether its files are, but for comments and spaces, what they were."""
+    texts, kept_out = planted([slip])
+    words = {path: [re.sub(r"//[^\n]*|/\*.*?\*/|--[^\n]*", "", one, flags=re.S).split() for one in (path.read_text(), text)] for path, text in texts.items() if path.is_file()}
+    return not kept_out and all(before == after for before, after in words.values())
+
+
+def keeps_shape(slip):
+    """Whether a slip changes names and numbers alone: no call, no operation and no order of them."""
+    return all(shape(old) == shape(new) for _, old, new in slip.pairs)
+
+
+def shape(text):
+    """A line with each name and number that is not called, and is no word of the language, put as one sign."""
+    words = r"(?!(?:as|else|for|if|in|let|match|mut|return|while)\b)\w+(?:(?:::|\.)\w+)*\b(?!\s*[(!])"
+    return re.sub(rf"(?<![\w.]){words}", "_", text).split()
+
+
 def meet(slip, other):
-    """Whether an error of one may be the other's: they sit in one place, or in two tables with a reader in common."""
+    """Whether an error of one may be the other's: they sit in one place, or in two files of definitions with a reader in common. Where one
+    of two such files reads the other, what reads the first reads both."""
     readers = [set() if one.of_function() else readers_of(one.home, one.place) for one in (slip, other)]
     return slip.place == other.place or bool(readers[0] & readers[1])
 
 
 def may_join(slip):
-    """Whether a slip may stand with others: it is in one function's body, or in a table that laws alone read."""
+    """Whether a slip may stand with others: it is in one function's body, or in definitions that no code and no function's proof reads,
+    and some law does."""
     if slip.of_function():
         return not strays(slip)
     readers = readers_of(slip.home, slip.place)
-    laws = all(file.startswith("proofs/") and not file.endswith("/Proof.antt") for file in readers)
-    return slip.place.startswith("specs/") and bool(readers) and laws and {file for file, _, _ in slip.pairs} == {slip.place}
+    apart = not any(file.startswith("src/") or file.endswith("/Proof.antt") for file in readers)
+    read = any(file.startswith("proofs/") for file in readers)
+    return slip.place.startswith("specs/") and apart and read and {file for file, _, _ in slip.pairs} == {slip.place}
 
 
 @lru_cache(maxsize=None)
