@@ -13,7 +13,7 @@ use Rattle.types.specs.declared.page_id.MaybePageID.{MaybePageID}
 use Rattle.types.specs.declared.page_id.MaybePageID.the-variants as maybe
 use Rattle.types.proofs.TestLaws.{eq-or-ne}
 use Rattle.alloc.specs.Calls as calls
-use Rattle.alloc.specs.Calls.{found, handingOut}
+use Rattle.alloc.specs.Calls.{nextFree, handingOut}
 use Rattle.alloc.specs.Checks.{pageCheck}
 use Rattle.alloc.specs.History.{tryAllocate, leftBy, leftAfter}
 use Rattle.alloc.specs.Marks.{marksOf, isMarked, freeing}
@@ -68,7 +68,7 @@ module _ (a : Allocator) (p : ℕ) (sound : Sound a) (below : p < a .«page_coun
 
 page-or-none : (a : Allocator) → Sound a → (calls.tryAllocate a .answer ≡ None) ⊎ ((page : PageID) × (calls.tryAllocate a .answer ≡ Page page))
 unfolding calls.tryAllocate
-page-or-none a s = rw (state-fine a (s .1)) (case (found a))
+page-or-none a s = rw (state-fine a (s .1)) (case (nextFree a))
   where
     case : (m : MaybePageID) → (handingOut a m .answer ≡ None) ⊎ ((page : PageID) × (handingOut a m .answer ≡ Page page))
     case maybe.None = inl refl

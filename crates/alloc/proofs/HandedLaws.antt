@@ -8,7 +8,7 @@ use lib.Seq.{getD-set-same, getD-set-other}
 use Rattle.types.specs.declared.page_id.PageID.{PageID}
 use Rattle.types.specs.declared.page_id.MaybePageID.{MaybePageID}
 use Rattle.types.specs.declared.page_id.MaybePageID.the-variants as maybe
-use Rattle.alloc.specs.Calls.{found, tryAllocate, handingOut, allocationAfter}
+use Rattle.alloc.specs.Calls.{nextFree, tryAllocate, handingOut, allocationAfter}
 use Rattle.alloc.specs.Checks.{stateCheck}
 use Rattle.alloc.specs.Marks.{marksOf, isMarked, marking}
 use Rattle.alloc.specs.Search.{roundFrom}
@@ -27,7 +27,7 @@ page-after Fine a maybe.None page e = let z : _≡_ {A = ℕ} 0 1 = cc in absurd
 page-after Fine a (maybe.Some q) page e = let f : q ≡ page = cc in (refl, ap maybe.Some f)
 
 -- what the search finds is a page, and free
-pub found-free : (a : Allocator) (page : PageID) (p : ℕ) → InRange a → found a ≡ maybe.Some page → p ≡ page .0
+pub found-free : (a : Allocator) (page : PageID) (p : ℕ) → InRange a → nextFree a ≡ maybe.Some page → p ≡ page .0
     → (p < a .«page_count») × (isMarked (a .pages) p ≡ false)
 found-free a page p r e is =
     let f = first-says (marksOf (a .pages)) (roundFrom (a .«next_page_id») (a .«page_count»)) page e in
@@ -52,8 +52,8 @@ pub handed-out : (a : Allocator) (page : PageID) → Sized a → tryAllocate a .
 unfolding tryAllocate
 handed-out a page size e = rw (s .0, s .1) (made (fine-state a (s .0)) (first-says (marksOf (a .pages)) (roundFrom (a .«next_page_id») (a .«page_count»)) page (s .1)))
   where
-    s : (stateCheck a ≡ Fine) × (found a ≡ maybe.Some page)
-    s = page-after (stateCheck a) a (found a) page e
+    s : (stateCheck a ≡ Fine) × (nextFree a ≡ maybe.Some page)
+    s = page-after (stateCheck a) a (nextFree a) page e
 
     made : InRange a → First (marksOf (a .pages)) (roundFrom (a .«next_page_id») (a .«page_count»)) (page .0) → HandedOut a (page .0) (movedPast (marked a (page .0)) (page .0))
     made r f =

@@ -13,12 +13,12 @@ use Rattle.types.specs.declared.page_id.PageID.{PageID}
 use Rattle.types.specs.declared.page_id.MaybePageID.{MaybePageID}
 use Rattle.types.specs.declared.page_id.MaybePageID.the-variants.{None, Some}
 use Rattle.alloc.specs.Calls as calls
-use Rattle.alloc.specs.Calls.{found, changeAfter, allocationAfter, handingOut}
+use Rattle.alloc.specs.Calls.{nextFree, changeAfter, allocationAfter, handingOut}
 use Rattle.alloc.specs.Checks.{stateCheck, pageCheck, countCheck}
 use Rattle.alloc.specs.History.{Call, reset, tryAllocate, markUsed, free, isUsed, usedPages, freePages, pageCount, margin, tryAllocateEach, freeEach, leftBy, leftAfter}
 use Rattle.alloc.specs.Marks.{bitsOf, marksOf, isMarked, countOf, marking, freeing}
 use Rattle.alloc.specs.Several as several
-use Rattle.alloc.specs.Several.{Handed, thenFurther, handedBy, allocationsAfter, onward, freeOn}
+use Rattle.alloc.specs.Several.{Handed, thenFurther, handedBy, allocationsAfter, thenFreeing, freeOn}
 use Rattle.alloc.specs.State.{allFree, marked, freed, movedPast, Sized, inRange}
 use Rattle.alloc.specs.declared.allocator.Allocator.{Allocator}
 use Rattle.alloc.specs.declared.answers.Allocated.{Allocated}
@@ -101,14 +101,14 @@ either : (P : Allocator → Type 0) (t : Bool) (x y : Change) → (t ≡ true �
 either P true x y f g = f refl
 either P false x y f g = g refl
 
-handed : (P : Allocator → Type 0) (a : Allocator) (found : MaybePageID) → P a
-    → ((page : PageID) → found ≡ Some page → P (movedPast (marked a (page .0)) (page .0))) → P (handingOut a found .allocator)
+handed : (P : Allocator → Type 0) (a : Allocator) (nextFree : MaybePageID) → P a
+    → ((page : PageID) → nextFree ≡ Some page → P (movedPast (marked a (page .0)) (page .0))) → P (handingOut a nextFree .allocator)
 handed P a None p f = p
 handed P a (Some page) p f = f page refl
 
 allocated-kept : (a : Allocator) → Sound a → Sound (calls.tryAllocate a .allocator)
 unfolding calls.tryAllocate
-allocated-kept a s = after-allocation Sound (stateCheck a) a _ s (λ e. handed Sound a (found a) s (λ page f.
+allocated-kept a s = after-allocation Sound (stateCheck a) a _ s (λ e. handed Sound a (nextFree a) s (λ page f.
     let p = page .0 in
     let here = found-free a page p (s .1) f refl in
     let size = marked-sized a p (s .0) in
@@ -137,7 +137,7 @@ after-allocations : (k : Verdict) (a : Allocator) (h : Handed) → Sound a → S
 after-allocations (Refused why) a h s t = s
 after-allocations Fine a h s t = t
 
-onward-kept : (x : Outcome) (start : Allocator) (c : Change) → Sound start → Sound (c .allocator) → Sound (onward x start c .allocator)
+onward-kept : (x : Outcome) (start : Allocator) (c : Change) → Sound start → Sound (c .allocator) → Sound (thenFreeing x start c .allocator)
 onward-kept outcome.Done start c s t = t
 onward-kept (outcome.Refused why) start c s t = s
 

@@ -10,7 +10,7 @@ use lib.ListN.{length, getD, take}
 use lib.Seq.{getD-take, length-take-le}
 use Rattle.types.specs.declared.page_id.MaybePageID.{MaybePageID}
 use Rattle.types.specs.declared.page_id.MaybePageID.the-variants as maybe
-use Rattle.alloc.specs.Calls.{found, tryAllocate, handingOut, allocationAfter}
+use Rattle.alloc.specs.Calls.{nextFree, tryAllocate, handingOut, allocationAfter}
 use Rattle.alloc.specs.Checks.{stateCheck}
 use Rattle.alloc.specs.Marks.{marksOf, isMarked, countOf}
 use Rattle.alloc.specs.Search.{roundFrom}
@@ -63,7 +63,7 @@ module _ (a : Allocator) (size : Sized a) (r : InRange a) where
 
 -- ---- the search finds none
 
-none-used : (a : Allocator) → InRange a → found a ≡ maybe.None → (p : ℕ) → p < a .«page_count» → isMarked (a .pages) p ≡ true
+none-used : (a : Allocator) → InRange a → nextFree a ≡ maybe.None → (p : ℕ) → p < a .«page_count» → isMarked (a .pages) p ≡ true
 none-used a r e p h = ⊎-elim on (λ z. absurd (omega arith)) (r .next)
   where
     on : a .«next_page_id» < a .«page_count» → isMarked (a .pages) p ≡ true
@@ -75,7 +75,7 @@ none-used a r e p h = ⊎-elim on (λ z. absurd (omega arith)) (r .next)
         let long : length (roundFrom next count) ≡ count = length-roundFrom next count (next-le a r) in
         rw at at (none-says (marksOf (a .pages)) (roundFrom next count) e (i .0) (omega (arith, i .1 .0)))
 
-used-none : (a : Allocator) → InRange a → ((p : ℕ) → p < a .«page_count» → isMarked (a .pages) p ≡ true) → found a ≡ maybe.None
+used-none : (a : Allocator) → InRange a → ((p : ℕ) → p < a .«page_count» → isMarked (a .pages) p ≡ true) → nextFree a ≡ maybe.None
 used-none a r h = says-none (marksOf (a .pages)) (roundFrom (a .«next_page_id») (a .«page_count»)) each
   where
     each : (j : ℕ) → j < length (roundFrom (a .«next_page_id») (a .«page_count»)) → isMarked (a .pages) (getD (roundFrom (a .«next_page_id») (a .«page_count»)) j 0) ≡ true
@@ -96,7 +96,7 @@ unfolding tryAllocate
 none-exactly a size r = (forth, back)
   where
     forth : tryAllocate a .answer ≡ None → (a .«page_count» ≡ 0) ⊎ (a .used ≡ a .«page_count»)
-    forth e = inr (says-full a size r (none-used a r (none-after (stateCheck a) a (found a) e .1)))
+    forth e = inr (says-full a size r (none-used a r (none-after (stateCheck a) a (nextFree a) e .1)))
 
     back : (a .«page_count» ≡ 0) ⊎ (a .used ≡ a .«page_count») → tryAllocate a .answer ≡ None
     back h =
@@ -106,4 +106,4 @@ none-exactly a size r = (forth, back)
 -- where the answer is none, nothing changes
 pub none-changes-nothing : (a : Allocator) → tryAllocate a .answer ≡ None → tryAllocate a .allocator ≡ a
 unfolding tryAllocate
-none-changes-nothing a e = let s = none-after (stateCheck a) a (found a) e in rw (s .0, s .1)
+none-changes-nothing a e = let s = none-after (stateCheck a) a (nextFree a) e in rw (s .0, s .1)

@@ -8,12 +8,12 @@ use Rattle.types.specs.declared.page_id.MaybePageID.the-variants.{None, Some}
 use Rattle.types.specs.Answers.{outcomeTold}
 use Rattle.alloc.specs.Answers.{allocatedTold, pagesTold}
 use Rattle.alloc.specs.Calls as calls
-use Rattle.alloc.specs.Calls.{found, done, corrupted, changeAfter, allocationAfter, handingOut}
+use Rattle.alloc.specs.Calls.{nextFree, done, corrupted, changeAfter, allocationAfter, handingOut}
 use Rattle.alloc.specs.Checks.{stateCheck, pageCheck, countCheck}
 use Rattle.alloc.specs.History.{Call, reset, tryAllocate, markUsed, free, isUsed, usedPages, freePages, pageCount, margin, tryAllocateEach, freeEach, answerTo, leftBy}
 use Rattle.alloc.specs.Marks.{isMarked}
 use Rattle.alloc.specs.Several as several
-use Rattle.alloc.specs.Several.{Handed, handedBy, allocationsAfter, onward, freeOn}
+use Rattle.alloc.specs.Several.{Handed, handedBy, allocationsAfter, thenFreeing, freeOn}
 use Rattle.alloc.specs.State.{allFree, marked, freed}
 use Rattle.alloc.specs.declared.allocator.Allocator.{Allocator}
 use Rattle.alloc.specs.declared.answers.Change.{Change}
@@ -54,7 +54,7 @@ each-honest : (k : Verdict) (a : Allocator) (h : Handed) (pages : List ℕ) → 
 each-honest (Refused why) a h pages n = refl
 each-honest Fine a h pages n = absurd (n refl)
 
-onward-honest : (x : Outcome) (start : Allocator) (c : Change) → Honest start c → Honest start (onward x start c)
+onward-honest : (x : Outcome) (start : Allocator) (c : Change) → Honest start c → Honest start (thenFreeing x start c)
 unfolding Honest
 onward-honest outcome.Done start c h = h
 onward-honest (outcome.Refused why) start c h = λ n. refl
@@ -68,7 +68,7 @@ freeOn-honest start (p ∷ ps) a =
 pub refused-kept : (a : Allocator) (c : Call) → (answerTo a c .number ≡ 0 → ⊥) → leftBy a c ≡ a
 unfolding answerTo leftBy calls.reset calls.tryAllocate calls.markUsed calls.free several.allocateEach several.freeEach Honest
 refused-kept a (reset count seed) n = checked (countCheck count) a _ (done-honest a (allFree count (seed % count))) n
-refused-kept a tryAllocate n = handed-honest (stateCheck a) a (found a) n
+refused-kept a tryAllocate n = handed-honest (stateCheck a) a (nextFree a) n
 refused-kept a (markUsed p) n =
     checked (pageCheck a (record { 0 = p })) a _ (picked (isMarked (a .pages) p) a _ _ (corrupted-honest a) (done-honest a (marked a p))) n
 refused-kept a (free p) n =

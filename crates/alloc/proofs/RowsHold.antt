@@ -6,12 +6,12 @@ use Rattle.alloc.specs.Calls.{reset, markUsed, free, tryAllocate, isUsed
 use Rattle.alloc.specs.Checks.{stateCheck, pageCheck, wantedCheck, countCheck}
 use Rattle.alloc.specs.History.{answerTo, leftBy, answersTo}
 use Rattle.alloc.specs.Marks.{bitsOf, marksOf, countOf, marking, freeing}
-use Rattle.alloc.specs.Rows.{Row, outcomeOf, rows, severalRows}
+use Rattle.alloc.specs.Rows.{Row, outcomeOf, referenceRows, severalRows}
 use Rattle.alloc.specs.Search.{upFrom, roundFrom, firstFree}
 use Rattle.alloc.specs.Several.{handedBy, allocateEach, freeOn, freeEach}
 use Rattle.alloc.specs.State.{inRange}
 
-pub rows-hold : map outcomeOf rows ≡ map (λ (row : Row). row .answers) rows
+pub rows-hold : map outcomeOf referenceRows ≡ map (λ (row : Row). row .answers) referenceRows
 unfolding outcomeOf answersTo answerTo leftBy reset markUsed free tryAllocate isUsed usedPages freePages pageCount marginOf inRange stateCheck pageCheck wantedCheck countCheck
     upFrom roundFrom firstFree bitsOf marksOf countOf marking freeing
 rows-hold = refl

@@ -14,7 +14,7 @@ use Rattle.types.specs.declared.page_id.MaybePageID.the-variants.{None, Some}
 use Rattle.types.specs.declared.refusal.Refusal.{Refusal}
 use Rattle.types.specs.declared.refusal.Refusal.the-variants.{Corrupted, OutOfRange}
 use Rattle.types.specs.declared.refusal.Verdict.the-variants.{Fine, Refused}
-use Rattle.alloc.specs.Calls.{found, tryAllocate, free, done}
+use Rattle.alloc.specs.Calls.{nextFree, tryAllocate, free, done}
 use Rattle.alloc.specs.Checks.{stateCheck, pageCheck}
 use Rattle.alloc.specs.Marks.{isMarked, marking, freeing}
 use Rattle.alloc.specs.Several.{Handed, nothingHanded, handedBy, allocateEach, putFirst, placesAfter, freeOn, freeEach}
@@ -37,7 +37,7 @@ stateOf count pages used next = record { «page_count» = count; pages = pages; 
 abbrev behind : List ℕ → Handed → Handed
 behind pages further = record { pages = pages ++ further .pages; allocator = further .allocator }
 
-hand-none : (n : ℕ) (a : Allocator) → InRange a → found a ≡ None → handedBy n a ≡ nothingHanded a
+hand-none : (n : ℕ) (a : Allocator) → InRange a → nextFree a ≡ None → handedBy n a ≡ nothingHanded a
 unfolding handedBy tryAllocate
 hand-none zero a r none = refl
 hand-none (suc n) a r none = rw (state-fine a r, none)
@@ -47,7 +47,7 @@ unfolding handedBy tryAllocate
 hand-refused zero a why e = refl
 hand-refused (suc n) a why e = rw e
 
-hand-page : (n : ℕ) (a : Allocator) (page : PageID) → InRange a → found a ≡ Some page
+hand-page : (n : ℕ) (a : Allocator) (page : PageID) → InRange a → nextFree a ≡ Some page
     → handedBy (suc n) a ≡ behind (page .0 ∷ []) (handedBy n (movedPast (marked a (page .0)) (page .0)))
 unfolding handedBy tryAllocate
 hand-page n a page r is = rw (state-fine a r, is)
@@ -70,7 +70,7 @@ hand-begun start places s = record { sound = s; within = omega arith; long = ref
 
 module _ (start : Allocator) (places₀ places : List ℕ) (i : ℕ) (a : Allocator) (h : Handing start places₀ places i a) where
   -- one more
-  one-more : (page : PageID) → i < length places → found a ≡ Some page
+  one-more : (page : PageID) → i < length places → nextFree a ≡ Some page
       → Handing start places₀ (set places i (page .0)) (i + 1) (movedPast (marked a (page .0)) (page .0))
   one-more page below is =
       let free = found-free a page p (h .sound .1) is refl in
@@ -106,7 +106,7 @@ module _ (start : Allocator) (places₀ places : List ℕ) (i : ℕ) (a : Alloca
           ∙ ap (λ (n : ℕ). take n (set places i p) ++ further .pages) (sym (add-one i))
 
   -- the same, of a turn's variables
-  pub hand-on : (page : PageID) (p next : ℕ) (pages : List ℕ) → i < length places → found a ≡ Some page → p ≡ page .0
+  pub hand-on : (page : PageID) (p next : ℕ) (pages : List ℕ) → i < length places → nextFree a ≡ Some page → p ≡ page .0
       → pages ≡ marking (a .pages) p → next ≡ (p + 1) % a .«page_count»
       → Handing start places₀ (set places i (page .0)) (i + 1) (stateOf (a .«page_count») pages (a .used + 1) next)
   hand-on page p next pages below is same put past = rw (past, put, same) (one-more page below is)
@@ -122,7 +122,7 @@ module _ (start : Allocator) (places₀ places : List ℕ) (i : ℕ) (a : Alloca
       let counted : length (take i places) ≡ i = length-take-le i places (h .within) in
       (rw (fine, handed e, counted), rw (handed e, counted) (sym (take-append-drop i places) ∙ ap (λ (l : List ℕ). take i places ++ l) (h .rest)))
 
-  pub no-page : stateCheck start ≡ Fine → found a ≡ None
+  pub no-page : stateCheck start ≡ Fine → nextFree a ≡ None
       → (record { answer = count.Pages i; allocator = a } ≡ allocateEach start (length places₀)) × (places ≡ placesAfter start places₀)
   no-page fine none = ended fine (hand-none (length places₀ - i) a (h .sound .1) none)
 

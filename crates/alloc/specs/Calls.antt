@@ -53,8 +53,8 @@ unfoldable pub free : Allocator → PageID → Change
 free a page = changeAfter (pageCheck a page) a (cond (isMarked (a .pages) (page .0)) (done (freed a (page .0))) (corrupted a))
 
 -- the first free page from the next one on, round
-abbrev pub found : Allocator → MaybePageID
-found a = firstFree (marksOf (a .pages)) (roundFrom (a .«next_page_id») (a .«page_count»))
+abbrev pub nextFree : Allocator → MaybePageID
+nextFree a = firstFree (marksOf (a .pages)) (roundFrom (a .«next_page_id») (a .«page_count»))
 
 -- the page that a search finds is marked and handed out; where it finds none, nothing changes
 abbrev pub handingOut : Allocator → MaybePageID → Allocation
@@ -68,7 +68,7 @@ allocationAfter Fine a work = work
 
 -- try_allocate
 unfoldable pub tryAllocate : Allocator → Allocation
-tryAllocate a = allocationAfter (stateCheck a) a (handingOut a (found a))
+tryAllocate a = allocationAfter (stateCheck a) a (handingOut a (nextFree a))
 
 -- ---- calls that read it
 

@@ -31,8 +31,8 @@ tooFew =
       answers = answered [] ∷ answered (100 ∷ []) ∷ record { number = 0; values = negsuc 0 ∷ [] } ∷ [];
     }
 
-abbrev pub rows : List Row
-rows = inTurn ∷ tooFew ∷ []
+abbrev pub referenceRows : List Row
+referenceRows = inTurn ∷ tooFew ∷ []
 
 -- ---- several pages
 

@@ -58,15 +58,15 @@ placesAfter a places = putFirst (handedBy (length places) a .pages) places
 -- ---- free_each
 
 -- the first refusal refuses all, with the allocator as it was at the start
-abbrev pub onward : Outcome → Allocator → Change → Change
-onward outcome.Done start further = further
-onward (outcome.Refused why) start further = record { answer = outcome.Refused why; allocator = start }
+abbrev pub thenFreeing : Outcome → Allocator → Change → Change
+thenFreeing outcome.Done start further = further
+thenFreeing (outcome.Refused why) start further = record { answer = outcome.Refused why; allocator = start }
 
 -- these pages are still to be freed, in this order; a call that is refused gives the number, 4 or 1
 unfoldable pub freeOn : Allocator → List ℕ → Allocator → Change
 freeOn start [] a = done a
 freeOn start (p ∷ ps) a =
-    onward (free a (record { 0 = p }) .answer) start (freeOn start ps (free a (record { 0 = p }) .allocator))
+    thenFreeing (free a (record { 0 = p }) .answer) start (freeOn start ps (free a (record { 0 = p }) .allocator))
 
 -- all of them, from the start
 unfoldable pub freeEach : Allocator → List ℕ → Change

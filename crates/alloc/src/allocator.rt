@@ -2,15 +2,15 @@
 ghost use mathlib.Core.Path.{_≡_};
 ghost use Rattle.alloc.specs.Calls.{reset, markUsed, free, tryAllocate, isUsed, usedPages, freePages, pageCount, marginOf};
 ghost use Rattle.alloc.specs.State.{allFree};
-use super::answers::Allocated;
-use super::answers::Allocation;
-use super::answers::Change;
-use super::answers::Count;
-use super::answers::Margin;
-use super::answers::Usage;
-use super::checks;
-use super::marks;
-use super::state;
+use crate::answers::Allocated;
+use crate::answers::Allocation;
+use crate::answers::Change;
+use crate::answers::Count;
+use crate::answers::Margin;
+use crate::answers::Usage;
+use crate::checks;
+use crate::marks;
+use crate::state;
 use types::answers::Outcome;
 use types::config::MAX_PAGE_COUNT;
 use types::page_id::MaybePageID;
@@ -47,7 +47,7 @@ impl Allocator {
     pub fn reset(self, count: usize, seed: u32) -> Change
         ensures answers { λ r. ⌜ r ≡ reset self count seed ⌝ }
     {
-        if let Verdict::Refused(why) = checks::count_check(count) {
+        if let Verdict::Refused(why) = checks::check_count(count) {
             return Change {
                 answer: Outcome::Refused(why),
                 allocator: self,
@@ -68,7 +68,7 @@ impl Allocator {
     pub fn try_allocate(self) -> Allocation
         ensures answers { λ r. ⌜ r ≡ tryAllocate self ⌝ }
     {
-        if let Verdict::Refused(why) = checks::state_check(self) {
+        if let Verdict::Refused(why) = checks::check_state(self) {
             return Allocation {
                 answer: Allocated::Refused(why),
                 allocator: self,
@@ -94,7 +94,7 @@ impl Allocator {
     pub fn mark_used(self, page: PageID) -> Change
         ensures answers { λ r. ⌜ r ≡ markUsed self page ⌝ }
     {
-        if let Verdict::Refused(why) = checks::page_check(self, page) {
+        if let Verdict::Refused(why) = checks::check_page(self, page) {
             return Change {
                 answer: Outcome::Refused(why),
                 allocator: self,
@@ -116,7 +116,7 @@ impl Allocator {
     pub fn free(self, page: PageID) -> Change
         ensures answers { λ r. ⌜ r ≡ free self page ⌝ }
     {
-        if let Verdict::Refused(why) = checks::page_check(self, page) {
+        if let Verdict::Refused(why) = checks::check_page(self, page) {
             return Change {
                 answer: Outcome::Refused(why),
                 allocator: self,
@@ -138,7 +138,7 @@ impl Allocator {
     pub fn is_used(self, page: PageID) -> Usage
         ensures answers { λ r. ⌜ r ≡ isUsed self page ⌝ }
     {
-        if let Verdict::Refused(why) = checks::page_check(self, page) {
+        if let Verdict::Refused(why) = checks::check_page(self, page) {
             return Usage::Refused(why);
         }
         if marks::is_marked(&self.pages, page.index()) {
@@ -151,7 +151,7 @@ impl Allocator {
     pub fn used_pages(self) -> Count
         ensures answers { λ r. ⌜ r ≡ usedPages self ⌝ }
     {
-        match checks::state_check(self) {
+        match checks::check_state(self) {
             Verdict::Fine => Count::Pages(self.used),
             Verdict::Refused(why) => Count::Refused(why),
         }
@@ -160,7 +160,7 @@ impl Allocator {
     pub fn free_pages(self) -> Count
         ensures answers { λ r. ⌜ r ≡ freePages self ⌝ }
     {
-        match checks::state_check(self) {
+        match checks::check_state(self) {
             Verdict::Fine => Count::Pages(self.page_count - self.used),
             Verdict::Refused(why) => Count::Refused(why),
         }
@@ -169,7 +169,7 @@ impl Allocator {
     pub fn page_count(self) -> Count
         ensures answers { λ r. ⌜ r ≡ pageCount self ⌝ }
     {
-        match checks::state_check(self) {
+        match checks::check_state(self) {
             Verdict::Fine => Count::Pages(self.page_count),
             Verdict::Refused(why) => Count::Refused(why),
         }
@@ -179,7 +179,7 @@ impl Allocator {
     pub fn margin(self, wanted: usize) -> Margin
         ensures answers { λ r. ⌜ r ≡ marginOf self wanted ⌝ }
     {
-        match checks::wanted_check(self, wanted) {
+        match checks::check_wanted(self, wanted) {
             Verdict::Fine => Margin::Pages(
                 (self.page_count - self.used) as isize - wanted as isize,
             ),

@@ -4,7 +4,7 @@ ghost use mathlib.Core.Path.{_≡_};
 ghost use lib.Dec.{eqb};
 ghost use Rattle.types.specs.Answers.{valueOr, sizeOr};
 ghost use Rattle.alloc.specs.Answers.{allocatedTold, usageTold, countTold, marginTold};
-use super::allocator::Allocator;
+use crate::allocator::Allocator;
 use types::answers::Outcome;
 use types::page_id::PageID;
 use types::refusal::Refusal;

@@ -1,14 +1,14 @@
 // The checks before a call's work, in their order (docs/RULES.md, Order of checks).
 ghost use mathlib.Core.Path.{_≡_};
 ghost use Rattle.alloc.specs.Checks.{stateCheck, pageCheck, wantedCheck, countCheck};
-use super::allocator::Allocator;
-use super::state;
+use crate::allocator::Allocator;
+use crate::state;
 use types::config::MAX_PAGE_COUNT;
 use types::page_id::PageID;
 use types::refusal::Refusal;
 use types::refusal::Verdict;
 
-pub(crate) fn state_check(a: Allocator) -> Verdict
+pub(crate) fn check_state(a: Allocator) -> Verdict
     ensures answers { λ r. ⌜ r ≡ stateCheck a ⌝ }
 {
     if state::in_range(a) {
@@ -18,7 +18,7 @@ pub(crate) fn state_check(a: Allocator) -> Verdict
     }
 }
 
-pub(crate) fn page_check(a: Allocator, page: PageID) -> Verdict
+pub(crate) fn check_page(a: Allocator, page: PageID) -> Verdict
     ensures answers { λ r. ⌜ r ≡ pageCheck a page ⌝ }
 {
     if !state::in_range(a) {
@@ -31,17 +31,17 @@ pub(crate) fn page_check(a: Allocator, page: PageID) -> Verdict
     }
 }
 
-pub(crate) fn wanted_check(a: Allocator, wanted: usize) -> Verdict
+pub(crate) fn check_wanted(a: Allocator, wanted: usize) -> Verdict
     ensures answers { λ r. ⌜ r ≡ wantedCheck a wanted ⌝ }
 {
     if wanted <= MAX_PAGE_COUNT {
-        state_check(a)
+        check_state(a)
     } else {
         Verdict::Refused(Refusal::BadCount)
     }
 }
 
-pub(crate) fn count_check(count: usize) -> Verdict
+pub(crate) fn check_count(count: usize) -> Verdict
     ensures answers { λ r. ⌜ r ≡ countCheck count ⌝ }
 {
     if (1 <= count) & (count <= MAX_PAGE_COUNT) {

@@ -7,7 +7,7 @@ ghost use lib.ListN.{length, drop};
 ghost use Rattle.types.specs.Build.{maxPageCount};
 ghost use Rattle.alloc.specs.Marks.{marksOf, isMarked, countOf, marking, freeing};
 ghost use Rattle.alloc.specs.Search.{upFrom, roundFrom, firstFree};
-use super::allocator::MARK_BYTES;
+use crate::allocator::MARK_BYTES;
 use types::page_id::MaybePageID;
 use types::page_id::PageID;
 

@@ -4,13 +4,13 @@ ghost use lib.ListN.{length};
 ghost use Rattle.alloc.specs.Several.{allocateEach, placesAfter, freeEach};
 ghost use Rattle.alloc.specs.declared.answers.Count.the-variants.{Pages};
 ghost use Rattle.types.specs.declared.answers.Outcome.the-variants.{Refused};
-use super::allocator::Allocator;
-use super::answers::Allocations;
-use super::answers::Change;
-use super::answers::Count;
-use super::checks;
-use super::marks;
-use super::state;
+use crate::allocator::Allocator;
+use crate::answers::Allocations;
+use crate::answers::Change;
+use crate::answers::Count;
+use crate::checks;
+use crate::marks;
+use crate::state;
 use types::answers::Outcome;
 use types::page_id::MaybePageID;
 use types::refusal::Refusal;
@@ -39,7 +39,7 @@ pub fn try_allocate_each(a: Allocator, places: &mut [u16]) -> Allocations
     ensures answers { λ r. ⌜ r ≡ allocateEach a (length (now (places .entry))) ⌝ }
     ensures bytes { λ _. ⌜ now (places .exit) ≡ placesAfter a (now (places .entry)) ⌝ }
 {
-    if let Verdict::Refused(why) = checks::state_check(a) {
+    if let Verdict::Refused(why) = checks::check_state(a) {
         return Allocations {
             answer: Count::Refused(why),
             allocator: a,
@@ -84,7 +84,7 @@ pub fn try_allocate_each(a: Allocator, places: &mut [u16]) -> Allocations
 pub fn free_each(a: Allocator, freed: &[u16]) -> Change
     ensures answers { λ r. ⌜ r ≡ freeEach a (now (freed .entry)) ⌝ }
 {
-    if let Verdict::Refused(why) = checks::state_check(a) {
+    if let Verdict::Refused(why) = checks::check_state(a) {
         return refused(why, a);
     }
     let mut pages = a.pages;

@@ -5,8 +5,8 @@ ghost use Prim.Native.Nat.{_+_, _%_, _≤_, _<_};
 ghost use Rattle.types.specs.Build.{maxPageCount};
 ghost use Rattle.alloc.specs.Marks.{isMarked};
 ghost use Rattle.alloc.specs.State.{nextFits, inRange, marked, freed, movedPast};
-use super::allocator::Allocator;
-use super::marks;
+use crate::allocator::Allocator;
+use crate::marks;
 use types::config::MAX_PAGE_COUNT;
 
 fn next_fits(next: usize, count: usize) -> bool

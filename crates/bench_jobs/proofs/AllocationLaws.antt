@@ -14,7 +14,7 @@ use Rattle.alloc.specs.declared.answers.Allocated.{Allocated}
 use Rattle.alloc.specs.declared.answers.Allocated.the-variants.{Refused}
 use Rattle.alloc.specs.declared.answers.Allocation.{Allocation}
 use Rattle.alloc.specs.declared.answers.Change.{Change}
-use Rattle.bench_jobs.specs.Allocations.{codeOf, allocateOne, allocateFirst, freeOne, freeFirst, begun, allocCycle}
+use Rattle.bench_jobs.specs.Allocations.{codeOf, allocateOne, allocateFirst, freeOne, freeFirst, resetTally, allocCycle}
 use Rattle.bench_jobs.specs.Telling.{mixed}
 use Rattle.bench_jobs.specs.declared.allocating.Tally.{Tally}
 
@@ -37,7 +37,7 @@ free-step p t a number sum called told mixing =
     ∙ ap (λ (b : Change). tallied (b .allocator) (mixed (t .sum) (outcomeTold (b .answer) .number))) called
 
 pub begun-by : (count seed : ℕ) (new : Allocator) (a : Change) (number : ℕ) → new ≡ allFree 0 0 → a ≡ reset new count seed
-    → number ≡ outcomeTold (a .answer) .number → tallied (a .allocator) number ≡ begun count seed
+    → number ≡ outcomeTold (a .answer) .number → tallied (a .allocator) number ≡ resetTally count seed
 begun-by count seed new a number made called told =
     ap (λ (n : ℕ). tallied (a .allocator) n) told
     ∙ ap (λ (b : Change). tallied (b .allocator) (outcomeTold (b .answer) .number)) (called ∙ ap (λ (n : Allocator). reset n count seed) made)
@@ -59,7 +59,7 @@ allocate-end n start t most least so-far = so-far ∙ ap (λ (k : ℕ). allocate
 pub free-end : (n : ℕ) (start t : Tally) → n ≤ maxPageCount → maxPageCount ≤ n → t ≡ freeFirst n start → t ≡ freeFirst maxPageCount start
 free-end n start t most least so-far = so-far ∙ ap (λ (k : ℕ). freeFirst k start) (all-of-them n most least)
 
-pub cycle : (count seed : ℕ) (a b c : Tally) → a ≡ begun count seed → b ≡ allocateFirst maxPageCount a → c ≡ freeFirst maxPageCount b
+pub cycle : (count seed : ℕ) (a b c : Tally) → a ≡ resetTally count seed → b ≡ allocateFirst maxPageCount a → c ≡ freeFirst maxPageCount b
     → c .sum ≡ allocCycle count seed
 unfolding allocCycle
 cycle count seed a b c started filled emptied =

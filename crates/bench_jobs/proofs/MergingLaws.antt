@@ -17,7 +17,7 @@ use Rattle.cursor.specs.declared.answers.Moved.{Moved}
 use Rattle.cursor.specs.declared.answers.NewCursor.{NewCursor}
 use Rattle.cursor.specs.declared.answers.NextAnswer.{NextAnswer}
 use Rattle.cursor.specs.declared.answers.NextAnswer.the-variants.{End, Entry, Refused}
-use Rattle.bench_jobs.specs.Merges.{MergeState, stateOf, summed, isEntry, afterNext, mergeOne, begunBy, begun, mergeOn, mergeAll}
+use Rattle.bench_jobs.specs.Merges.{MergeState, mergeState, summed, isEntry, afterNext, mergeOne, mergeBegunBy, mergeBegun, mergeOn, mergeAll}
 use Rattle.bench_jobs.specs.Telling.{mixed}
 use Rattle.bench_jobs.specs.declared.merging.Merging.{Merging}
 
@@ -47,13 +47,13 @@ module _ (sum : ℕ) (answer : NextAnswer) (key value : List ℕ) where
 
 module _ (runs ends : List ℕ) (m : Merging) (key value key′ value′ : List ℕ)
     (put : (key′ ≡ nextKey runs ends Unbounded [] (m .cursor) key value) × (value′ ≡ nextValue runs ends Unbounded [] (m .cursor) key value)) where
-  pub merge-bytes : (key′ ≡ mergeOne runs ends (stateOf m key value) .key) × (value′ ≡ mergeOne runs ends (stateOf m key value) .value)
+  pub merge-bytes : (key′ ≡ mergeOne runs ends (mergeState m key value) .key) × (value′ ≡ mergeOne runs ends (mergeState m key value) .value)
   unfolding mergeOne
   merge-bytes = put
 
   pub merge-step : (moved : Moved) (sum : ℕ) (on : Bool) → moved ≡ nextOf runs ends Unbounded [] (m .cursor) (length key) (length value)
       → sum ≡ summed (m .sum) (moved .answer) key′ value′ → on ≡ isEntry (moved .answer)
-      → _≡_ {A = Merging} (record { cursor = moved .cursor; sum = sum; on = on }) (mergeOne runs ends (stateOf m key value) .merging)
+      → _≡_ {A = Merging} (record { cursor = moved .cursor; sum = sum; on = on }) (mergeOne runs ends (mergeState m key value) .merging)
   unfolding mergeOne
   merge-step moved sum on called sums ons =
       ap {B = Merging} (λ (x : ℕ). record { cursor = moved .cursor; sum = x; on = on }) sums
@@ -66,10 +66,10 @@ module _ (runs ends : List ℕ) (m : Merging) (key value key′ value′ : List 
       called
 
 pub begun-by : (runs ends : List ℕ) (made : NewCursor) (n : ℕ) → made ≡ newOf runs ends Unbounded [] → n ≡ outcomeTold (made .answer) .number
-    → _≡_ {A = Merging} (record { cursor = made .cursor; sum = n; on = eqb n 0 }) (begun runs ends)
-unfolding begun
+    → _≡_ {A = Merging} (record { cursor = made .cursor; sum = n; on = eqb n 0 }) (mergeBegun runs ends)
+unfolding mergeBegun
 begun-by runs ends made n new number =
-    ap {B = Merging} (λ (k : ℕ). record { cursor = made .cursor; sum = k; on = eqb k 0 }) number ∙ ap begunBy new
+    ap {B = Merging} (λ (k : ℕ). record { cursor = made .cursor; sum = k; on = eqb k 0 }) number ∙ ap mergeBegunBy new
 
 -- ---- the calls
 
@@ -91,31 +91,31 @@ module _ (runs ends : List ℕ) (s : MergeState) where
       let z : suc n - 1 ≡ n = omega arith in
       rw z (ap (λ (b : Bool). cond b (mergeOn n runs ends (mergeOne runs ends s)) s) on)
 
-pub calls-start : (most : ℕ) (runs ends key value : List ℕ) (m : Merging) → m ≡ begun runs ends
-    → mergeOn most runs ends (stateOf m key value) ≡ mergeAll most runs ends key value
-calls-start most runs ends key value m made = ap (λ (x : Merging). mergeOn most runs ends (stateOf x key value)) made
+pub calls-start : (most : ℕ) (runs ends key value : List ℕ) (m : Merging) → m ≡ mergeBegun runs ends
+    → mergeOn most runs ends (mergeState m key value) ≡ mergeAll most runs ends key value
+calls-start most runs ends key value m made = ap (λ (x : Merging). mergeOn most runs ends (mergeState x key value)) made
 
 -- the calls that are left come to the whole
 module _ (runs ends : List ℕ) (whole : MergeState) (n : ℕ) (m : Merging) (key value : List ℕ)
-    (rest : mergeOn n runs ends (stateOf m key value) ≡ whole) where
-  all : stateOf m key value ≡ whole → (m .sum ≡ whole .merging .sum) × ((key ≡ whole .key) × (value ≡ whole .value))
+    (rest : mergeOn n runs ends (mergeState m key value) ≡ whole) where
+  all : mergeState m key value ≡ whole → (m .sum ≡ whole .merging .sum) × ((key ≡ whole .key) × (value ≡ whole .value))
   all e = (ap (λ (s : MergeState). s .merging .sum) e, (ap (λ (s : MergeState). s .key) e, ap (λ (s : MergeState). s .value) e))
 
   pub calls-stop : m .on ≡ false → (m .sum ≡ whole .merging .sum) × ((key ≡ whole .key) × (value ≡ whole .value))
-  calls-stop off = all (sym (stop runs ends (stateOf m key value) n off) ∙ rest)
+  calls-stop off = all (sym (stop runs ends (mergeState m key value) n off) ∙ rest)
 
   pub calls-none : n ≤ 0 → (m .sum ≡ whole .merging .sum) × ((key ≡ whole .key) × (value ≡ whole .value))
-  calls-none over = all (sym (none runs ends (stateOf m key value) n over) ∙ rest)
+  calls-none over = all (sym (none runs ends (mergeState m key value) n over) ∙ rest)
 
-  pub calls-more : (m′ : Merging) (key′ value′ : List ℕ) → 1 ≤ n → m .on ≡ true → m′ ≡ mergeOne runs ends (stateOf m key value) .merging
-      → (key′ ≡ mergeOne runs ends (stateOf m key value) .key) × (value′ ≡ mergeOne runs ends (stateOf m key value) .value)
-      → mergeOn (n - 1) runs ends (stateOf m′ key′ value′) ≡ whole
+  pub calls-more : (m′ : Merging) (key′ value′ : List ℕ) → 1 ≤ n → m .on ≡ true → m′ ≡ mergeOne runs ends (mergeState m key value) .merging
+      → (key′ ≡ mergeOne runs ends (mergeState m key value) .key) × (value′ ≡ mergeOne runs ends (mergeState m key value) .value)
+      → mergeOn (n - 1) runs ends (mergeState m′ key′ value′) ≡ whole
   calls-more m′ key′ value′ some on one put =
-      ap (λ (x : Merging). mergeOn (n - 1) runs ends (stateOf x key′ value′)) one
-      ∙ ap (λ (x : List ℕ). mergeOn (n - 1) runs ends (stateOf (mergeOne runs ends (stateOf m key value) .merging) x value′)) (put .0)
+      ap (λ (x : Merging). mergeOn (n - 1) runs ends (mergeState x key′ value′)) one
+      ∙ ap (λ (x : List ℕ). mergeOn (n - 1) runs ends (mergeState (mergeOne runs ends (mergeState m key value) .merging) x value′)) (put .0)
       ∙ ap
       (λ (x : List ℕ).
-      mergeOn (n - 1) runs ends (stateOf (mergeOne runs ends (stateOf m key value) .merging) (mergeOne runs ends (stateOf m key value) .key) x))
+      mergeOn (n - 1) runs ends (mergeState (mergeOne runs ends (mergeState m key value) .merging) (mergeOne runs ends (mergeState m key value) .key) x))
       (put .1)
-      ∙ sym (more runs ends (stateOf m key value) n some on)
+      ∙ sym (more runs ends (mergeState m key value) n some on)
       ∙ rest

@@ -15,8 +15,8 @@ use Rattle.alloc.specs.declared.answers.Allocations.{Allocations}
 use Rattle.alloc.specs.declared.answers.Change.{Change}
 use Rattle.alloc.specs.declared.answers.Count.{Count}
 use Rattle.alloc.specs.declared.answers.Count.the-variants.{Refused}
-use Rattle.bench_jobs.specs.Allocations.{begun}
-use Rattle.bench_jobs.specs.Several.{pagesOf, countCode, closed, givenBack, allocEach, eachPlaces}
+use Rattle.bench_jobs.specs.Allocations.{resetTally}
+use Rattle.bench_jobs.specs.Several.{pagesOf, countCode, summedUp, givenBack, allocEach, eachPlaces}
 use Rattle.bench_jobs.specs.Telling.{mixed}
 use Rattle.bench_jobs.specs.declared.allocating.Tally.{Tally}
 
@@ -24,17 +24,17 @@ pub count-refused : (answer : Count) (why : Refusal) (n : ℕ) → answer ≡ Re
 count-refused answer why n known number = ap (λ (k : ℕ). 0x1_0000 + k) number ∙ ap countCode (sym known)
 
 pub closed-by : (sum number first code second : ℕ) (c : Change) (free : Count) → number ≡ outcomeTold (c .answer) .number → first ≡ mixed sum number
-    → free ≡ freePages (c .allocator) → code ≡ countCode free → second ≡ mixed first code → second ≡ closed sum c
+    → free ≡ freePages (c .allocator) → code ≡ countCode free → second ≡ mixed first code → second ≡ summedUp sum c
 closed-by sum number first code second c free row one asked coded two = two ∙ rw (one, row, coded, asked)
 
 pub given-back-by : (sum end n told : ℕ) (a : Allocator) (places : List ℕ) (c : Change) → end ≡ min (length places) n
-    → c ≡ freeEach a (take (end - 0) (drop 0 places)) → told ≡ closed sum c → told ≡ givenBack sum a n places
+    → c ≡ freeEach a (take (end - 0) (drop 0 places)) → told ≡ summedUp sum c → told ≡ givenBack sum a n places
 given-back-by sum end n told a places c is called so =
     so
-    ∙ ap (closed sum) called
-    ∙ ap (λ (l : List ℕ). closed sum (freeEach a l)) (ap (λ (k : ℕ). take k places) (sub-zero end) ∙ take-least end n places is)
+    ∙ ap (summedUp sum) called
+    ∙ ap (λ (l : List ℕ). summedUp sum (freeEach a l)) (ap (λ (k : ℕ). take k places) (sub-zero end) ∙ take-least end n places is)
 
-pub each-by : (count seed : ℕ) (places after : List ℕ) (t : Tally) (given : Allocations) (n code first sum : ℕ) → t ≡ begun count seed
+pub each-by : (count seed : ℕ) (places after : List ℕ) (t : Tally) (given : Allocations) (n code first sum : ℕ) → t ≡ resetTally count seed
     → given ≡ allocateEach (t .allocator) (length places) → after ≡ placesAfter (t .allocator) places → code ≡ countCode (given .answer)
     → first ≡ mixed (t .sum) code → n ≡ pagesOf (given .answer) → sum ≡ givenBack first (given .allocator) n after
     → (sum ≡ allocEach count seed places) × (after ≡ eachPlaces count seed places)

@@ -25,8 +25,8 @@ use Rattle.writer.specs.declared.answers.Taking.the-variants as taking
 use Rattle.writer.specs.declared.answers.Wrote.{Wrote}
 use Rattle.writer.specs.declared.page_writer.PageWriter.{PageWriter}
 use Rattle.bench_jobs.specs.Telling.{told}
-use Rattle.bench_jobs.specs.Writings.{WriteState, stateOf, afterHeader, begunAt, begunBy, begun, Fits}
-use Rattle.bench_jobs.specs.Writings.{afterTaking, afterWrite, writeBytes, writeFrom, writeOne, writeOn, writeAll, commitOf, finished, finishedFlash, writePage}
+use Rattle.bench_jobs.specs.Writings.{WriteState, writeState, afterHeader, writeBegunAt, writeBegunBy, writeBegun, Fits}
+use Rattle.bench_jobs.specs.Writings.{afterTaking, afterWrite, writeBytes, writeFrom, writeOne, writeOn, writeAll, commitOf, writeFinished, writeFinishedFlash, writePage}
 use Rattle.bench_jobs.specs.declared.writing.Writing.{Writing}
 
 -- ---- the start
@@ -37,35 +37,35 @@ header-stored e n number = ap {B = Writing} (λ (k : ℕ). record { writer = e .
 
 module _ (flash : List ℕ) (magic page : ℕ) (header : List ℕ) (left : ℕ) (new : PageWriter) (o : Opened) (made : new ≡ newWriter)
     (opens : o ≡ opened flash (record { 0 = page }) (length header) new left) where
-  starts : begunBy o flash magic header ≡ begun flash magic page header left
-  unfolding begun
+  starts : writeBegunBy o flash magic header ≡ writeBegun flash magic page header left
+  unfolding writeBegun
   starts =
-      ap (λ (x : Opened). begunBy x flash magic header)
+      ap (λ (x : Opened). writeBegunBy x flash magic header)
       (opens ∙ ap (λ (w : PageWriter). opened flash (record { 0 = page }) (length header) w left) made)
 
-  both : (w : Writing) (flash′ : List ℕ) → stateOf w flash′ ≡ begunBy o flash magic header
-      → (w ≡ begun flash magic page header left .writing) × (flash′ ≡ begun flash magic page header left .flash)
+  both : (w : Writing) (flash′ : List ℕ) → writeState w flash′ ≡ writeBegunBy o flash magic header
+      → (w ≡ writeBegun flash magic page header left .writing) × (flash′ ≡ writeBegun flash magic page header left .flash)
   both w flash′ e = (ap (λ (s : WriteState). s .writing) (e ∙ starts), ap (λ (s : WriteState). s .flash) (e ∙ starts))
 
   pub begun-refused : (why : Refusal) (n : ℕ) → o .answer ≡ outcome.Refused why → n ≡ numberOf why
-      → (_≡_ {A = Writing} (record { writer = o .writer; left = o .left; taken = 0; on = false; why = n }) (begun flash magic page header left .writing))
-      × (flash ≡ begun flash magic page header left .flash)
+      → (_≡_ {A = Writing} (record { writer = o .writer; left = o .left; taken = 0; on = false; why = n }) (writeBegun flash magic page header left .writing))
+      × (flash ≡ writeBegun flash magic page header left .flash)
   begun-refused why n known number =
       both (record { writer = o .writer; left = o .left; taken = 0; on = false; why = n }) flash
-      (ap (λ (k : ℕ). stateOf (record { writer = o .writer; left = o .left; taken = 0; on = false; why = k }) flash) number
-      ∙ ap (λ (a : Outcome). begunAt a (o .writer) (o .left) flash magic header) (sym known))
+      (ap (λ (k : ℕ). writeState (record { writer = o .writer; left = o .left; taken = 0; on = false; why = k }) flash) number
+      ∙ ap (λ (a : Outcome). writeBegunAt a (o .writer) (o .left) flash magic header) (sym known))
 
   abbrev heading : Duty
   heading = headingDuty eraseValue flash (o .writer) magic header
 
   pub begun-open : (e : Ended) (w : Writing) (flash′ : List ℕ) → o .answer ≡ outcome.Done → e ≡ handsBack heading (o .writer) (o .left)
       → flash′ ≡ leaves heading (o .writer) (o .left) flash → w ≡ afterHeader e
-      → (w ≡ begun flash magic page header left .writing) × (flash′ ≡ begun flash magic page header left .flash)
+      → (w ≡ writeBegun flash magic page header left .writing) × (flash′ ≡ writeBegun flash magic page header left .flash)
   begun-open e w flash′ known heads stores after =
       both w flash′
-      (ap (λ (x : Writing). stateOf x flash′) (after ∙ ap afterHeader heads)
-      ∙ ap (λ (x : List ℕ). stateOf (afterHeader (handsBack heading (o .writer) (o .left))) x) stores
-      ∙ ap (λ (a : Outcome). begunAt a (o .writer) (o .left) flash magic header) (sym known))
+      (ap (λ (x : Writing). writeState x flash′) (after ∙ ap afterHeader heads)
+      ∙ ap (λ (x : List ℕ). writeState (afterHeader (handsBack heading (o .writer) (o .left))) x) stores
+      ∙ ap (λ (a : Outcome). writeBegunAt a (o .writer) (o .left) flash magic header) (sym known))
 
 -- ---- one write
 
@@ -102,16 +102,16 @@ module _ (payload : List ℕ) (piece : ℕ) (flash : List ℕ) (w : Writing) (fr
       (took-fits from (takes (length bytes) (w .writer)) (handsBack duty (w .writer) (w .left) .answer) (omega arith))
 
   pub write-step : (wr : Wrote) (flash′ : List ℕ) (w′ : Writing) → wr ≡ wroteBytes → flash′ ≡ leaves duty (w .writer) (w .left) flash → w′ ≡ afterWrite from wr
-      → (w′ ≡ writeOne payload piece (stateOf w flash) .writing) × (flash′ ≡ writeOne payload piece (stateOf w flash) .flash)
+      → (w′ ≡ writeOne payload piece (writeState w flash) .writing) × (flash′ ≡ writeOne payload piece (writeState w flash) .flash)
   unfolding writeOne
   write-step wr flash′ w′ called stores after = (
     after
         ∙ ap (afterWrite from) called
         ∙ ap (λ (b : List ℕ). writeBytes from b w flash .writing) part
-        ∙ ap (λ (k : ℕ). writeFrom k payload piece (stateOf w flash) .writing) at,
+        ∙ ap (λ (k : ℕ). writeFrom k payload piece (writeState w flash) .writing) at,
     stores
         ∙ ap (λ (b : List ℕ). writeBytes from b w flash .flash) part
-        ∙ ap (λ (k : ℕ). writeFrom k payload piece (stateOf w flash) .flash) at,
+        ∙ ap (λ (k : ℕ). writeFrom k payload piece (writeState w flash) .flash) at,
   )
 
 -- ---- the writes
@@ -136,33 +136,33 @@ module _ (payload : List ℕ) (piece : ℕ) (s : WriteState) where
 
 -- the writes that are left come to the whole
 module _ (payload : List ℕ) (piece : ℕ) (whole : WriteState) (n : ℕ) (flash : List ℕ) (w : Writing)
-    (rest : writeOn n payload piece (stateOf w flash) ≡ whole) where
-  parts : stateOf w flash ≡ whole → (w ≡ whole .writing) × (flash ≡ whole .flash)
+    (rest : writeOn n payload piece (writeState w flash) ≡ whole) where
+  parts : writeState w flash ≡ whole → (w ≡ whole .writing) × (flash ≡ whole .flash)
   parts e = (ap (λ (s : WriteState). s .writing) e, ap (λ (s : WriteState). s .flash) e)
 
   pub writes-stop : w .on ≡ false → (w ≡ whole .writing) × (flash ≡ whole .flash)
-  writes-stop off = parts (sym (stop payload piece (stateOf w flash) n off) ∙ rest)
+  writes-stop off = parts (sym (stop payload piece (writeState w flash) n off) ∙ rest)
 
   pub writes-none : n ≤ 0 → (w ≡ whole .writing) × (flash ≡ whole .flash)
-  writes-none over = parts (sym (none payload piece (stateOf w flash) n over) ∙ rest)
+  writes-none over = parts (sym (none payload piece (writeState w flash) n over) ∙ rest)
 
   pub writes-more : (flash′ : List ℕ) (w′ : Writing) → 1 ≤ n → w .on ≡ true
-      → (w′ ≡ writeOne payload piece (stateOf w flash) .writing) × (flash′ ≡ writeOne payload piece (stateOf w flash) .flash)
-      → writeOn (n - 1) payload piece (stateOf w′ flash′) ≡ whole
+      → (w′ ≡ writeOne payload piece (writeState w flash) .writing) × (flash′ ≡ writeOne payload piece (writeState w flash) .flash)
+      → writeOn (n - 1) payload piece (writeState w′ flash′) ≡ whole
   writes-more flash′ w′ some on one =
-      ap (λ (x : Writing). writeOn (n - 1) payload piece (stateOf x flash′)) (one .0)
-      ∙ ap (λ (x : List ℕ). writeOn (n - 1) payload piece (stateOf (writeOne payload piece (stateOf w flash) .writing) x)) (one .1)
-      ∙ sym (more payload piece (stateOf w flash) n some on)
+      ap (λ (x : Writing). writeOn (n - 1) payload piece (writeState x flash′)) (one .0)
+      ∙ ap (λ (x : List ℕ). writeOn (n - 1) payload piece (writeState (writeOne payload piece (writeState w flash) .writing) x)) (one .1)
+      ∙ sym (more payload piece (writeState w flash) n some on)
       ∙ rest
 
 -- ---- the commit, and the job
 
 module _ (w : Writing) (flash : List ℕ) where
   abbrev done : Ended
-  done = handsBack (commitOf (stateOf w flash)) (w .writer) (w .left)
+  done = handsBack (commitOf (writeState w flash)) (w .writer) (w .left)
 
   abbrev behind : List ℕ
-  behind = leaves (commitOf (stateOf w flash)) (w .writer) (w .left) flash
+  behind = leaves (commitOf (writeState w flash)) (w .writer) (w .left) flash
 
   -- by whether nothing was refused
   abbrev tellsBy : Bool → ℕ
@@ -172,15 +172,15 @@ module _ (w : Writing) (flash : List ℕ) where
   leavesBy b = cond b behind flash
 
   pub finished-refused : (n : ℕ) → (w .why ≡ 0 → ⊥) → n ≡ told (w .why) (w .taken)
-      → (n ≡ finished (stateOf w flash)) × (flash ≡ finishedFlash (stateOf w flash))
-  unfolding finished finishedFlash
+      → (n ≡ writeFinished (writeState w flash)) × (flash ≡ writeFinishedFlash (writeState w flash))
+  unfolding writeFinished writeFinishedFlash
   finished-refused n refused tells =
       let b : eqb (w .why) 0 ≡ false = ne-eqb (w .why) 0 refused in
       (tells ∙ sym (ap tellsBy b), sym (ap leavesBy b))
 
   pub finished-done : (e : Ended) (flash′ : List ℕ) (k n : ℕ) → w .why ≡ 0 → e ≡ done → flash′ ≡ behind → k ≡ outcomeTold (e .answer) .number
-      → n ≡ told k (w .taken) → (n ≡ finished (stateOf w flash)) × (flash′ ≡ finishedFlash (stateOf w flash))
-  unfolding finished finishedFlash
+      → n ≡ told k (w .taken) → (n ≡ writeFinished (writeState w flash)) × (flash′ ≡ writeFinishedFlash (writeState w flash))
+  unfolding writeFinished writeFinishedFlash
   finished-done e flash′ k n fine commits stores number tells =
       let b : eqb (w .why) 0 ≡ true = eq-eqb (w .why) 0 fine in (
         tells ∙ ap (λ (x : ℕ). told x (w .taken)) (number ∙ ap (λ (x : Ended). outcomeTold (x .answer) .number) commits) ∙ sym (ap tellsBy b),
@@ -188,17 +188,17 @@ module _ (w : Writing) (flash : List ℕ) where
       )
 
 pub page-written : (flash : List ℕ) (magic page : ℕ) (header payload : List ℕ) (piece left : ℕ) (a b : Writing) (flash₁ flash₂ flash₃ : List ℕ) (n : ℕ)
-    → (a ≡ begun flash magic page header left .writing) × (flash₁ ≡ begun flash magic page header left .flash)
-    → (b ≡ writeAll payload piece (stateOf a flash₁) .writing) × (flash₂ ≡ writeAll payload piece (stateOf a flash₁) .flash)
-    → (n ≡ finished (stateOf b flash₂)) × (flash₃ ≡ finishedFlash (stateOf b flash₂))
-    → (n ≡ finished (writePage flash magic page header payload piece left))
-    × (flash₃ ≡ finishedFlash (writePage flash magic page header payload piece left))
+    → (a ≡ writeBegun flash magic page header left .writing) × (flash₁ ≡ writeBegun flash magic page header left .flash)
+    → (b ≡ writeAll payload piece (writeState a flash₁) .writing) × (flash₂ ≡ writeAll payload piece (writeState a flash₁) .flash)
+    → (n ≡ writeFinished (writeState b flash₂)) × (flash₃ ≡ writeFinishedFlash (writeState b flash₂))
+    → (n ≡ writeFinished (writePage flash magic page header payload piece left))
+    × (flash₃ ≡ writeFinishedFlash (writePage flash magic page header payload piece left))
 unfolding writePage
 page-written flash magic page header payload piece left a b flash₁ flash₂ flash₃ n starts fills ends =
-    let started : stateOf a flash₁ ≡ begun flash magic page header left
-    = ap (λ (x : Writing). stateOf x flash₁) (starts .0) ∙ ap (λ (x : List ℕ). stateOf (begun flash magic page header left .writing) x) (starts .1) in
-    let filled : stateOf b flash₂ ≡ writeAll payload piece (begun flash magic page header left)
-    = ap (λ (x : Writing). stateOf x flash₂) (fills .0)
-    ∙ ap (λ (x : List ℕ). stateOf (writeAll payload piece (stateOf a flash₁) .writing) x) (fills .1)
+    let started : writeState a flash₁ ≡ writeBegun flash magic page header left
+    = ap (λ (x : Writing). writeState x flash₁) (starts .0) ∙ ap (λ (x : List ℕ). writeState (writeBegun flash magic page header left .writing) x) (starts .1) in
+    let filled : writeState b flash₂ ≡ writeAll payload piece (writeBegun flash magic page header left)
+    = ap (λ (x : Writing). writeState x flash₂) (fills .0)
+    ∙ ap (λ (x : List ℕ). writeState (writeAll payload piece (writeState a flash₁) .writing) x) (fills .1)
     ∙ ap (writeAll payload piece) started in
-    (ends .0 ∙ ap finished filled, ends .1 ∙ ap finishedFlash filled)
+    (ends .0 ∙ ap writeFinished filled, ends .1 ∙ ap writeFinishedFlash filled)

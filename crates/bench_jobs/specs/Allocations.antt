@@ -41,8 +41,8 @@ freeFirst zero t = t
 freeFirst (suc n) t = freeOne n (freeFirst n t)
 
 -- a new allocator that was reset
-abbrev pub begun : ℕ → ℕ → Tally
-begun count seed =
+abbrev pub resetTally : ℕ → ℕ → Tally
+resetTally count seed =
     record {
       allocator = reset (allFree 0 0) count seed .allocator;
       sum = outcomeTold (reset (allFree 0 0) count seed .answer) .number;
@@ -50,4 +50,4 @@ begun count seed =
 
 -- as many pages as there can be, and each of them back
 unfoldable pub allocCycle : ℕ → ℕ → ℕ
-allocCycle count seed = freeFirst maxPageCount (allocateFirst maxPageCount (begun count seed)) .sum
+allocCycle count seed = freeFirst maxPageCount (allocateFirst maxPageCount (resetTally count seed)) .sum

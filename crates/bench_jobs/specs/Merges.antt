@@ -23,8 +23,8 @@ pub record MergeState : Type 0 where
   pub key : List ℕ
   pub value : List ℕ
 
-abbrev pub stateOf : Merging → List ℕ → List ℕ → MergeState
-stateOf m key value = record { merging = m; key = key; value = value }
+abbrev pub mergeState : Merging → List ℕ → List ℕ → MergeState
+mergeState m key value = record { merging = m; key = key; value = value }
 
 -- the sum with an entry: the lengths of key and value, and the first four bytes of each buffer
 unfoldable pub summed : ℕ → NextAnswer → List ℕ → List ℕ → ℕ
@@ -59,12 +59,12 @@ mergeOn zero runs ends s = s
 mergeOn (suc n) runs ends s = cond (s .merging .on) (mergeOn n runs ends (mergeOne runs ends s)) s
 
 -- a cursor over all runs, from the first key on; a refused one does not go on
-abbrev pub begunBy : NewCursor → Merging
-begunBy made = record { cursor = made .cursor; sum = outcomeTold (made .answer) .number; on = eqb (outcomeTold (made .answer) .number) 0 }
+abbrev pub mergeBegunBy : NewCursor → Merging
+mergeBegunBy made = record { cursor = made .cursor; sum = outcomeTold (made .answer) .number; on = eqb (outcomeTold (made .answer) .number) 0 }
 
-unfoldable pub begun : List ℕ → List ℕ → Merging
-begun runs ends = begunBy (newOf runs ends Unbounded [])
+unfoldable pub mergeBegun : List ℕ → List ℕ → Merging
+mergeBegun runs ends = mergeBegunBy (newOf runs ends Unbounded [])
 
 -- the job
 abbrev pub mergeAll : ℕ → List ℕ → List ℕ → List ℕ → List ℕ → MergeState
-mergeAll most runs ends key value = mergeOn most runs ends (stateOf (begun runs ends) key value)
+mergeAll most runs ends key value = mergeOn most runs ends (mergeState (mergeBegun runs ends) key value)

@@ -23,8 +23,8 @@ pub record ReadState : Type 0 where
   pub reading : Reading
   pub out : List ℕ
 
-abbrev pub stateOf : Reading → List ℕ → ReadState
-stateOf r out = record { reading = r; out = out }
+abbrev pub readState : Reading → List ℕ → ReadState
+readState r out = record { reading = r; out = out }
 
 -- where the next byte goes
 abbrev pub putAt : List ℕ → Reading → ℕ
@@ -50,13 +50,13 @@ unfoldable pub readOne : List ℕ → ReadState → ReadState
 readOne flash s = readFrom (putAt (s .out) (s .reading)) flash s
 
 -- at most n reads, while it goes on
-unfoldable pub readOn : ℕ → List ℕ → ReadState → ReadState
-readOn zero flash s = s
-readOn (suc n) flash s = cond (s .reading .on) (readOn n flash (readOne flash s)) s
+unfoldable pub readWhileOn : ℕ → List ℕ → ReadState → ReadState
+readWhileOn zero flash s = s
+readWhileOn (suc n) flash s = cond (s .reading .on) (readWhileOn n flash (readOne flash s)) s
 
 -- each read but the last puts a byte or more, so a page has no more of them
-abbrev pub readAll : List ℕ → ReadState → ReadState
-readAll flash s = readOn (pageSize + 1) flash s
+abbrev pub readPieces : List ℕ → ReadState → ReadState
+readPieces flash s = readWhileOn (pageSize + 1) flash s
 
 -- a reader that was opened, or refused
 abbrev pub readingAt : PageReader → Outcome → Reading
@@ -68,7 +68,7 @@ openedAs o = readingAt (o .reader) (o .answer)
 
 -- the job: a new reader is opened on a page with h bytes of higher header, and reads all of it
 unfoldable pub readPage : List ℕ → ℕ → ℕ → ℕ → List ℕ → ReadState
-readPage flash magic page h out = readAll flash (stateOf (openedAs (openPage newReader flash magic (record { 0 = page }) h)) out)
+readPage flash magic page h out = readPieces flash (readState (openedAs (openPage newReader flash magic (record { 0 = page }) h)) out)
 
 abbrev pub toldOf : ReadState → ℕ
 toldOf s = told (s .reading .why) (s .reading .put)

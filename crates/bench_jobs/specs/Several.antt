@@ -11,7 +11,7 @@ use Rattle.alloc.specs.declared.answers.Allocations.{Allocations}
 use Rattle.alloc.specs.declared.answers.Change.{Change}
 use Rattle.alloc.specs.declared.answers.Count.{Count}
 use Rattle.alloc.specs.declared.answers.Count.the-variants.{Pages, Refused}
-use Rattle.bench_jobs.specs.Allocations.{begun}
+use Rattle.bench_jobs.specs.Allocations.{resetTally}
 use Rattle.bench_jobs.specs.Telling.{mixed}
 use Rattle.bench_jobs.specs.declared.allocating.Tally.{Tally}
 
@@ -26,12 +26,12 @@ countCode (Pages n) = n
 countCode (Refused why) = 0x1_0000 + numberOf why
 
 -- the sum with what freeing answers, and with how many pages are free then
-abbrev pub closed : ℕ → Change → ℕ
-closed sum c = mixed (mixed sum (outcomeTold (c .answer) .number)) (countCode (freePages (c .allocator)))
+abbrev pub summedUp : ℕ → Change → ℕ
+summedUp sum c = mixed (mixed sum (outcomeTold (c .answer) .number)) (countCode (freePages (c .allocator)))
 
 -- the first n of these pages freed
 abbrev pub givenBack : ℕ → Allocator → ℕ → List ℕ → ℕ
-givenBack sum a n places = closed sum (freeEach a (take n places))
+givenBack sum a n places = summedUp sum (freeEach a (take n places))
 
 -- how many pages were handed out goes into the sum, and they are freed
 abbrev pub eachSum : ℕ → Allocations → List ℕ → ℕ
@@ -43,8 +43,8 @@ eachAfter t places = eachSum (t .sum) (allocateEach (t .allocator) (length place
 
 -- the job
 unfoldable pub allocEach : ℕ → ℕ → List ℕ → ℕ
-allocEach count seed places = eachAfter (begun count seed) places
+allocEach count seed places = eachAfter (resetTally count seed) places
 
 -- the places after it
 unfoldable pub eachPlaces : ℕ → ℕ → List ℕ → List ℕ
-eachPlaces count seed places = placesAfter (begun count seed .allocator) places
+eachPlaces count seed places = placesAfter (resetTally count seed .allocator) places

@@ -28,8 +28,8 @@ pub record WriteState : Type 0 where
   pub writing : Writing
   pub flash : List ℕ
 
-abbrev pub stateOf : Writing → List ℕ → WriteState
-stateOf w flash = record { writing = w; flash = flash }
+abbrev pub writeState : Writing → List ℕ → WriteState
+writeState w flash = record { writing = w; flash = flash }
 
 -- ---- the start
 
@@ -45,18 +45,18 @@ afterHeader e =
     }
 
 -- a writer that was opened stores the page header, a refused one is not used
-abbrev pub begunAt : Outcome → PageWriter → ℕ → List ℕ → ℕ → List ℕ → WriteState
-begunAt outcome.Done w left flash magic header =
+abbrev pub writeBegunAt : Outcome → PageWriter → ℕ → List ℕ → ℕ → List ℕ → WriteState
+writeBegunAt outcome.Done w left flash magic header =
     let d = headingDuty eraseValue flash w magic header in
     record { writing = afterHeader (handsBack d w left); flash = leaves d w left flash }
-begunAt (outcome.Refused why) w left flash magic header =
+writeBegunAt (outcome.Refused why) w left flash magic header =
     record { writing = record { writer = w; left = left; taken = 0; on = false; why = numberOf why }; flash = flash }
 
-abbrev pub begunBy : Opened → List ℕ → ℕ → List ℕ → WriteState
-begunBy o flash magic header = begunAt (o .answer) (o .writer) (o .left) flash magic header
+abbrev pub writeBegunBy : Opened → List ℕ → ℕ → List ℕ → WriteState
+writeBegunBy o flash magic header = writeBegunAt (o .answer) (o .writer) (o .left) flash magic header
 
-unfoldable pub begun : List ℕ → ℕ → ℕ → List ℕ → ℕ → WriteState
-begun flash magic page header left = begunBy (opened flash (record { 0 = page }) (length header) newWriter left) flash magic header
+unfoldable pub writeBegun : List ℕ → ℕ → ℕ → List ℕ → ℕ → WriteState
+writeBegun flash magic page header left = writeBegunBy (opened flash (record { 0 = page }) (length header) newWriter left) flash magic header
 
 -- ---- the pieces
 
@@ -102,16 +102,16 @@ writeAll payload piece s = writeOn (pageSize + 1) payload piece s
 abbrev pub commitOf : WriteState → Duty
 commitOf s = commitDuty eraseValue (s .flash) (s .writing .writer)
 
-unfoldable pub finished : WriteState → ℕ
-finished s =
+unfoldable pub writeFinished : WriteState → ℕ
+writeFinished s =
     cond (eqb (s .writing .why) 0)
     (told (outcomeTold (handsBack (commitOf s) (s .writing .writer) (s .writing .left) .answer) .number) (s .writing .taken))
     (told (s .writing .why) (s .writing .taken))
 
-unfoldable pub finishedFlash : WriteState → List ℕ
-finishedFlash s = cond (eqb (s .writing .why) 0) (leaves (commitOf s) (s .writing .writer) (s .writing .left) (s .flash)) (s .flash)
+unfoldable pub writeFinishedFlash : WriteState → List ℕ
+writeFinishedFlash s = cond (eqb (s .writing .why) 0) (leaves (commitOf s) (s .writing .writer) (s .writing .left) (s .flash)) (s .flash)
 
 -- ---- the job, up to the commit
 
 unfoldable pub writePage : List ℕ → ℕ → ℕ → List ℕ → List ℕ → ℕ → ℕ → WriteState
-writePage flash magic page header payload piece left = writeAll payload piece (begun flash magic page header left)
+writePage flash magic page header payload piece left = writeAll payload piece (writeBegun flash magic page header left)

@@ -6,7 +6,7 @@ use types::config::MAX_PAGE_COUNT;
 use types::page_id::PageID;
 ghost use mathlib.Core.Path.{_≡_};
 ghost use Rattle.types.specs.Build.{maxPageCount};
-ghost use Rattle.bench_jobs.specs.Allocations.{codeOf, allocateOne, allocateFirst, freeOne, freeFirst, begun, allocCycle};
+ghost use Rattle.bench_jobs.specs.Allocations.{codeOf, allocateOne, allocateFirst, freeOne, freeFirst, resetTally, allocCycle};
 
 // An allocator, and the sum of what it answered so far.
 pub struct Tally {
@@ -75,8 +75,8 @@ fn free_all(start: Tally) -> Tally
     t
 }
 
-pub(crate) fn begun(count: usize, seed: u32) -> Tally
-    ensures answers { λ r. ⌜ r ≡ begun count seed ⌝ }
+pub(crate) fn reset_tally(count: usize, seed: u32) -> Tally
+    ensures answers { λ r. ⌜ r ≡ resetTally count seed ⌝ }
 {
     let change = Allocator::new().reset(count, seed);
     let answer = change.answer;
@@ -92,6 +92,6 @@ pub(crate) fn begun(count: usize, seed: u32) -> Tally
 pub extern "C" fn puffcradle_alloc_cycle(count: usize, seed: u32) -> u64
     ensures answers { λ r. ⌜ r ≡ allocCycle count seed ⌝ }
 {
-    let t = free_all(allocate_all(begun(count, seed)));
+    let t = free_all(allocate_all(reset_tally(count, seed)));
     t.sum
 }

@@ -5,7 +5,7 @@ use cursor::place::Cursor;
 use run::bound::Bound;
 use slices::field::get32;
 ghost use mathlib.Core.Path.{_≡_};
-ghost use Rattle.bench_jobs.specs.Merges.{stateOf, summed, isEntry, mergeOne, begun, mergeAll};
+ghost use Rattle.bench_jobs.specs.Merges.{mergeState, summed, isEntry, mergeOne, mergeBegun, mergeAll};
 
 // A cursor on its way, the sum of what it handed out, and whether it goes on.
 pub struct Merging {
@@ -43,9 +43,9 @@ fn is_entry(answer: NextAnswer) -> bool
 
 // One call of next, without an upper bound.
 fn merge_one(m: Merging, runs: &[u8], ends: &[usize], key: &mut [u8], value: &mut [u8]) -> Merging
-    ensures answers { λ r. ⌜ r ≡ mergeOne (now (runs .entry)) (now (ends .entry)) (stateOf m (now (key .entry)) (now (value .entry))) .merging ⌝ }
-    ensures bytes { λ _. ⌜ (now (key .exit) ≡ mergeOne (now (runs .entry)) (now (ends .entry)) (stateOf m (now (key .entry)) (now (value .entry))) .key)
-        × (now (value .exit) ≡ mergeOne (now (runs .entry)) (now (ends .entry)) (stateOf m (now (key .entry)) (now (value .entry))) .value) ⌝ }
+    ensures answers { λ r. ⌜ r ≡ mergeOne (now (runs .entry)) (now (ends .entry)) (mergeState m (now (key .entry)) (now (value .entry))) .merging ⌝ }
+    ensures bytes { λ _. ⌜ (now (key .exit) ≡ mergeOne (now (runs .entry)) (now (ends .entry)) (mergeState m (now (key .entry)) (now (value .entry))) .key)
+        × (now (value .exit) ≡ mergeOne (now (runs .entry)) (now (ends .entry)) (mergeState m (now (key .entry)) (now (value .entry))) .value) ⌝ }
 {
     let c = m.cursor;
     let moved = c.next(runs, ends, Bound::Unbounded, &runs[..0], key, value);
@@ -59,8 +59,8 @@ fn merge_one(m: Merging, runs: &[u8], ends: &[usize], key: &mut [u8], value: &mu
 }
 
 // A cursor over all runs, from the first key on.
-fn begun(runs: &[u8], ends: &[usize]) -> Merging
-    ensures answers { λ r. ⌜ r ≡ begun (now (runs .entry)) (now (ends .entry)) ⌝ }
+fn merge_begun(runs: &[u8], ends: &[usize]) -> Merging
+    ensures answers { λ r. ⌜ r ≡ mergeBegun (now (runs .entry)) (now (ends .entry)) ⌝ }
 {
     let made = Cursor::new(runs, ends, Bound::Unbounded, &runs[..0]);
     let answer = made.answer;
@@ -86,7 +86,7 @@ pub extern "C" fn puffcradle_merge(
     ensures bytes { λ _. ⌜ (now (key .exit) ≡ mergeAll most (now (runs .entry)) (now (ends .entry)) (now (key .entry)) (now (value .entry)) .key)
         × (now (value .exit) ≡ mergeAll most (now (runs .entry)) (now (ends .entry)) (now (key .entry)) (now (value .entry)) .value) ⌝ }
 {
-    let mut m = begun(runs, ends);
+    let mut m = merge_begun(runs, ends);
     let mut left = most;
     while 0 < left {
         if !m.on {

@@ -4,13 +4,13 @@ use reader::answers::Count;
 use reader::page_reader::PageReader;
 use types::answers::Outcome;
 use types::config::PAGE_SIZE;
-use types::num::least;
+use types::num::min;
 use types::page_id::PageID;
 ghost use mathlib.Core.Path.{_≡_};
 ghost use lib.ListN.{length};
 ghost use Rattle.reader.specs.Calls.{openBytes};
 ghost use Rattle.reader.specs.States.{newReader};
-ghost use Rattle.bench_jobs.specs.Readings.{stateOf, readOne, readAll, readingAt, readPage, toldOf};
+ghost use Rattle.bench_jobs.specs.Readings.{readState, readOne, readPieces, readingAt, readPage, toldOf};
 
 // A reader on its way: how many bytes it put, whether it goes on, and the number of the row that refused.
 pub struct Reading {
@@ -22,10 +22,10 @@ pub struct Reading {
 
 // One read, behind what was put so far. A read of nothing is the last.
 fn read_one(r: Reading, flash: &[u8], out: &mut [u8]) -> Reading
-    ensures answers { λ s. ⌜ s ≡ readOne (now (flash .entry)) (stateOf r (now (out .entry))) .reading ⌝ }
-    ensures bytes { λ _. ⌜ now (out .exit) ≡ readOne (now (flash .entry)) (stateOf r (now (out .entry))) .out ⌝ }
+    ensures answers { λ s. ⌜ s ≡ readOne (now (flash .entry)) (readState r (now (out .entry))) .reading ⌝ }
+    ensures bytes { λ _. ⌜ now (out .exit) ≡ readOne (now (flash .entry)) (readState r (now (out .entry))) .out ⌝ }
 {
-    let from = least(r.put, out.len());
+    let from = min(r.put, out.len());
     let reader = r.reader;
     let passage = reader.read(flash, &mut out[from..]);
     let answer = passage.answer;
@@ -47,9 +47,9 @@ fn read_one(r: Reading, flash: &[u8], out: &mut [u8]) -> Reading
 }
 
 // Each read but the last puts a byte or more, so a page has no more of them.
-fn read_all(start: Reading, flash: &[u8], out: &mut [u8]) -> Reading
-    ensures answers { λ s. ⌜ s ≡ readAll (now (flash .entry)) (stateOf start (now (out .entry))) .reading ⌝ }
-    ensures bytes { λ _. ⌜ now (out .exit) ≡ readAll (now (flash .entry)) (stateOf start (now (out .entry))) .out ⌝ }
+fn read_pieces(start: Reading, flash: &[u8], out: &mut [u8]) -> Reading
+    ensures answers { λ s. ⌜ s ≡ readPieces (now (flash .entry)) (readState start (now (out .entry))) .reading ⌝ }
+    ensures bytes { λ _. ⌜ now (out .exit) ≡ readPieces (now (flash .entry)) (readState start (now (out .entry))) .out ⌝ }
 {
     let mut r = start;
     let mut left = PAGE_SIZE + 1;
@@ -99,6 +99,6 @@ pub extern "C" fn puffcradle_read_page(
     let opening = PageReader::new().open(flash, magic, PageID(page), header);
     let answer = opening.answer;
     let reader = opening.reader;
-    let r = read_all(reading_at(reader, answer), flash, out);
+    let r = read_pieces(reading_at(reader, answer), flash, out);
     told(r.why, r.put)
 }

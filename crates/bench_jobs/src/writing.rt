@@ -3,14 +3,14 @@ use crate::telling::told;
 use slices::part::part_of;
 use types::answers::Outcome;
 use types::config::PAGE_SIZE;
-use types::num::least;
+use types::num::min;
 use types::page_id::PageID;
 use writer::answers::Ended;
 use writer::answers::Taking;
 use writer::answers::Wrote;
 use writer::page_writer::PageWriter;
 ghost use mathlib.Core.Path.{_≡_};
-ghost use Rattle.bench_jobs.specs.Writings.{Fits, stateOf, afterHeader, begun, afterWrite, writeOne, writeAll, finished, finishedFlash, writePage};
+ghost use Rattle.bench_jobs.specs.Writings.{Fits, writeState, afterHeader, writeBegun, afterWrite, writeOne, writeAll, writeFinished, writeFinishedFlash, writePage};
 
 // A writer on its way: the stores left, how many bytes it took, whether it goes on, and the number of the row that refused.
 pub struct Writing {
@@ -38,9 +38,9 @@ fn after_header(e: Ended) -> Writing
 }
 
 // A new writer, opened, with the page header stored.
-fn begun(flash: &mut [u8], magic: u32, page: u16, header: &[u8], left: usize) -> Writing
-    ensures answers { λ r. ⌜ r ≡ begun (now (flash .entry)) magic page (now (header .entry)) left .writing ⌝ }
-    ensures bytes { λ _. ⌜ now (flash .exit) ≡ begun (now (flash .entry)) magic page (now (header .entry)) left .flash ⌝ }
+fn write_begun(flash: &mut [u8], magic: u32, page: u16, header: &[u8], left: usize) -> Writing
+    ensures answers { λ r. ⌜ r ≡ writeBegun (now (flash .entry)) magic page (now (header .entry)) left .writing ⌝ }
+    ensures bytes { λ _. ⌜ now (flash .exit) ≡ writeBegun (now (flash .entry)) magic page (now (header .entry)) left .flash ⌝ }
 {
     let opened = PageWriter::new().open(flash, PageID(page), header.len(), left);
     let answer = opened.answer;
@@ -84,10 +84,10 @@ fn after_write(from: usize, w: Wrote) -> Writing
 
 // One write, of the next piece of the payload.
 fn write_one(w: Writing, flash: &mut [u8], payload: &[u8], piece: usize) -> Writing
-    ensures answers { λ r. ⌜ r ≡ writeOne (now (payload .entry)) piece (stateOf w (now (flash .entry))) .writing ⌝ }
-    ensures bytes { λ _. ⌜ now (flash .exit) ≡ writeOne (now (payload .entry)) piece (stateOf w (now (flash .entry))) .flash ⌝ }
+    ensures answers { λ r. ⌜ r ≡ writeOne (now (payload .entry)) piece (writeState w (now (flash .entry))) .writing ⌝ }
+    ensures bytes { λ _. ⌜ now (flash .exit) ≡ writeOne (now (payload .entry)) piece (writeState w (now (flash .entry))) .flash ⌝ }
 {
-    let from = least(w.taken, payload.len());
+    let from = min(w.taken, payload.len());
     let writer = w.writer;
     let wrote = writer.write(flash, part_of(payload, from, piece), w.left);
     after_write(from, wrote)
@@ -95,8 +95,8 @@ fn write_one(w: Writing, flash: &mut [u8], payload: &[u8], piece: usize) -> Writ
 
 // Each write but the last takes a byte or more, so a page has no more of them.
 fn write_all(start: Writing, flash: &mut [u8], payload: &[u8], piece: usize) -> Writing
-    ensures answers { λ r. ⌜ r ≡ writeAll (now (payload .entry)) piece (stateOf start (now (flash .entry))) .writing ⌝ }
-    ensures bytes { λ _. ⌜ now (flash .exit) ≡ writeAll (now (payload .entry)) piece (stateOf start (now (flash .entry))) .flash ⌝ }
+    ensures answers { λ r. ⌜ r ≡ writeAll (now (payload .entry)) piece (writeState start (now (flash .entry))) .writing ⌝ }
+    ensures bytes { λ _. ⌜ now (flash .exit) ≡ writeAll (now (payload .entry)) piece (writeState start (now (flash .entry))) .flash ⌝ }
 {
     let mut w = start;
     let mut left = PAGE_SIZE + 1;
@@ -111,9 +111,9 @@ fn write_all(start: Writing, flash: &mut [u8], payload: &[u8], piece: usize) -> 
 }
 
 // The commit, where nothing was refused.
-fn finished(w: Writing, flash: &mut [u8]) -> u64
-    ensures answers { λ r. ⌜ r ≡ finished (stateOf w (now (flash .entry))) ⌝ }
-    ensures bytes { λ _. ⌜ now (flash .exit) ≡ finishedFlash (stateOf w (now (flash .entry))) ⌝ }
+fn write_finished(w: Writing, flash: &mut [u8]) -> u64
+    ensures answers { λ r. ⌜ r ≡ writeFinished (writeState w (now (flash .entry))) ⌝ }
+    ensures bytes { λ _. ⌜ now (flash .exit) ≡ writeFinishedFlash (writeState w (now (flash .entry))) ⌝ }
 {
     if w.why != 0 {
         return told(w.why, w.taken);
@@ -135,10 +135,10 @@ pub extern "C" fn puffcradle_write_page(
     piece: usize,
     left: usize,
 ) -> u64
-    ensures answers { λ r. ⌜ r ≡ finished (writePage (now (flash .entry)) magic page (now (header .entry)) (now (payload .entry)) piece left) ⌝ }
-    ensures bytes { λ _. ⌜ now (flash .exit) ≡ finishedFlash (writePage (now (flash .entry)) magic page (now (header .entry)) (now (payload .entry)) piece left) ⌝ }
+    ensures answers { λ r. ⌜ r ≡ writeFinished (writePage (now (flash .entry)) magic page (now (header .entry)) (now (payload .entry)) piece left) ⌝ }
+    ensures bytes { λ _. ⌜ now (flash .exit) ≡ writeFinishedFlash (writePage (now (flash .entry)) magic page (now (header .entry)) (now (payload .entry)) piece left) ⌝ }
 {
-    let start = begun(flash, magic, page, header, left);
+    let start = write_begun(flash, magic, page, header, left);
     let w = write_all(start, flash, payload, piece);
-    finished(w, flash)
+    write_finished(w, flash)
 }

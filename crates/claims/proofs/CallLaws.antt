@@ -26,7 +26,7 @@ use Rattle.writer.specs.States.{firstChunk, inRange}
 use Rattle.writer.specs.Commits.{commitOps, nextChunk}
 use Rattle.writer.specs.Openings.{openedAfter, appended, appendedAt}
 use Rattle.writer.specs.Outcomes.{ended, endedFlash}
-use Rattle.writer.specs.Verdicts.{writerVerdict, openVerdict}
+use Rattle.writer.specs.Checks.{writerCheck, openCheck}
 use Rattle.writer.specs.Writes.{takes, takenOf, grown, isFull, writeOps, written}
 use Rattle.types.specs.declared.answers.Outcome.the-variants.{Done, Refused}
 use Rattle.writer.specs.declared.page_writer.PageWriter.{PageWriter}
@@ -48,8 +48,8 @@ pub record Going (n : ℕ) (w : PageWriter) : Type 0 where
   pub range : inRange w ≡ true
   pub there : hasPage n (w .page .0) ≡ true
 
-going-fine : (n : ℕ) (w : PageWriter) → Going n w → writerVerdict n w ≡ Fine
-unfolding writerVerdict
+going-fine : (n : ℕ) (w : PageWriter) → Going n w → writerCheck n w ≡ Fine
+unfolding writerCheck
 going-fine n w g = rw (g .shape, g .range, g .there)
 
 pub written-page : (w : PageWriter) (bytes : List ℕ) → written w bytes .page ≡ w .page
@@ -63,7 +63,7 @@ written-page w bytes = by (eqb (takes (length bytes) w) 0) (isFull (grown w (tak
 -- the writer that open_append hands back stands on the page that it was asked for
 pub append-page : (e : ℕ) (xs : List ℕ) (page : PageID) (h : ℕ) (w : PageWriter) (k : ℕ) → appended e xs page h w k .answer ≡ Done → appended e xs page h w k .writer .page ≡ page
 unfolding appended
-append-page e xs page h w k a = by (openVerdict (length xs) (page .0) h) (walkEnd (pageOf (page .0) xs) (firstChunk h)) a
+append-page e xs page h w k a = by (openCheck (length xs) (page .0) h) (walkEnd (pageOf (page .0) xs) (firstChunk h)) a
   where
     by : (v : Verdict) (end : Ending) → openedAfter v w k (appendedAt e (pageOf (page .0) xs) page h w k end) .answer ≡ Done
         → openedAfter v w k (appendedAt e (pageOf (page .0) xs) page h w k end) .writer .page ≡ page
@@ -89,7 +89,7 @@ calls-made e (bytes ∷ pieces) w left xs g =
     let ys = allowed base left ops xs in
     let v = written w bytes in
     let rest = additionOps e v pieces in
-    let fine : writerVerdict (length xs) w ≡ Fine = going-fine (length xs) w g in
+    let fine : writerCheck (length xs) w ≡ Fine = going-fine (length xs) w g in
     let same : length ys ≡ length xs = length-applied base (take left ops) xs in
     let next : Going (length ys) v = rw same (going-on (length xs) w bytes g) in
     ap

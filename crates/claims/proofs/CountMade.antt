@@ -17,7 +17,7 @@ use Rattle.writer.specs.Duties.{Duty, handsBack, leaves, makes}
 use Rattle.writer.specs.Openings.{openAs, openedAfter, opened, appendedAt, appended}
 use Rattle.writer.specs.Outcomes.{ended, endedFlash, endedOps}
 use Rattle.writer.specs.States.{firstChunk, fresh}
-use Rattle.writer.specs.Verdicts.{openVerdict}
+use Rattle.writer.specs.Checks.{openCheck}
 use Rattle.writer.specs.declared.page_writer.PageWriter.{PageWriter}
 use Rattle.claims.specs.Sequences.{AddCall, dutyOf, called, Making, callsMake, callsLeave, allOps}
 
@@ -57,7 +57,7 @@ counts-made e (call ∷ calls) w left xs =
 -- open and open_append leave it
 pub open-keeps-count : (xs : List ℕ) (page : PageID) (h : ℕ) (w : PageWriter) (left : ℕ) → opened xs page h w left .left ≡ left
 unfolding opened
-open-keeps-count xs page h w left = by (openVerdict (length xs) (page .0) h)
+open-keeps-count xs page h w left = by (openCheck (length xs) (page .0) h)
   where
     by : (v : Verdict) → openedAfter v w left (openAs (fresh true page h (firstChunk h)) left) .left ≡ left
     by (Refused why) = refl
@@ -65,7 +65,7 @@ open-keeps-count xs page h w left = by (openVerdict (length xs) (page .0) h)
 
 pub append-keeps-count : (e : ℕ) (xs : List ℕ) (page : PageID) (h : ℕ) (w : PageWriter) (left : ℕ) → appended e xs page h w left .left ≡ left
 unfolding appended
-append-keeps-count e xs page h w left = by (openVerdict (length xs) (page .0) h) (walkEnd (pageOf (page .0) xs) (firstChunk h))
+append-keeps-count e xs page h w left = by (openCheck (length xs) (page .0) h) (walkEnd (pageOf (page .0) xs) (firstChunk h))
   where
     by : (v : Verdict) (end : Ending) → openedAfter v w left (appendedAt e (pageOf (page .0) xs) page h w left end) .left ≡ left
     by (Refused why) end = refl

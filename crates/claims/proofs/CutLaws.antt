@@ -22,7 +22,7 @@ use Rattle.page.specs.declared.walk.Ending.the-variants.{EndAt}
 use Rattle.page.proofs.LaidLaws.{walk-ended}
 use Rattle.writer.specs.Openings.{appended, appendedAt, resumeAt}
 use Rattle.writer.specs.States.{firstChunk, fresh, inRange}
-use Rattle.writer.specs.Verdicts.{openVerdict}
+use Rattle.writer.specs.Checks.{openCheck}
 use Rattle.writer.specs.declared.answers.Opened.{Opened}
 use Rattle.types.specs.declared.answers.Outcome.the-variants.{Done}
 use Rattle.writer.specs.declared.page_writer.PageWriter.{PageWriter}
@@ -50,7 +50,7 @@ module _ (e : ℕ) (xs : List ℕ) (page : PageID) (h : ℕ) (w : PageWriter) (k
   writer = fresh false page h (resumeAt e bytes o)
 
   pub append-as : appended e xs page h w k ≡ record { answer = Done; writer = writer; left = k }
-  unfolding appended openVerdict
+  unfolding appended openCheck
   append-as = rw (shape .flash, shape .header, shape .there) (ap (appendedAt e bytes page h w k) ends)
 
   going : Going (length xs) writer

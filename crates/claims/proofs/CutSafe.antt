@@ -22,7 +22,7 @@ use Rattle.page.specs.declared.chunk.Step.{Step}
 use Rattle.page.specs.declared.chunk.Step.the-variants as step
 use Rattle.page.proofs.LaidLaws.{All}
 use Rattle.reader.specs.Calls.{openPage, openBytes, filled}
-use Rattle.reader.specs.Checks.{openVerdict}
+use Rattle.reader.specs.Checks.{openCheck}
 use Rattle.reader.specs.Finds.{Found, NotEmpty, found, foundWith, joined, readAll}
 use Rattle.reader.specs.States.{newReader}
 use Rattle.types.specs.declared.answers.Outcome.{Outcome}
@@ -34,7 +34,7 @@ use Rattle.reader.proofs.GoodLaws.{Right as SumRight}
 use Rattle.writer.specs.declared.page_writer.PageWriter.{PageWriter}
 use Rattle.claims.specs.Additions.{added, newPayload, storeCount, addedPayload}
 use Rattle.claims.specs.Histories.{Episode, AllPieces, history, keptPayloads}
-use Rattle.claims.specs.Pages.{AllBytes, AllRight, Good, payloads, finds, handsOut, Rooms, Opens}
+use Rattle.claims.specs.Pages.{AllBytes, AllRight, Good, payloads, finds, handsOut, SomeRoom, Opens}
 use Rattle.claims.specs.Untouched.{OthersKept}
 use Rattle.claims.proofs.CutPage.{page-before, page-after}
 use Rattle.claims.proofs.Elsewhere.{cut-elsewhere, history-elsewhere}
@@ -50,8 +50,8 @@ all-sums : (page : List ℕ) (cs : List Chunk) → AllRight page cs → All (Sum
 all-sums page [] r = tt
 all-sums page (c ∷ cs) r = (r .0 .sum, all-sums page cs (r .1))
 
-open-fine : (n h : ℕ) (page : PageID) (o : ℕ) (bytes : List ℕ) (magic : ℕ) → flashFine n ≡ true → hasPage n (page .0) ≡ true → Good magic (page .0) h o bytes → openVerdict n h page ≡ Fine
-unfolding openVerdict
+open-fine : (n h : ℕ) (page : PageID) (o : ℕ) (bytes : List ℕ) (magic : ℕ) → flashFine n ≡ true → hasPage n (page .0) ≡ true → Good magic (page .0) h o bytes → openCheck n h page ≡ Fine
+unfolding openCheck
 open-fine n h page o bytes magic f t g = rw (f, g .length-fine, t)
 
 pub good-found : (xs : List ℕ) (magic : ℕ) (page : PageID) (h o : ℕ) → flashFine (length xs) ≡ true → hasPage (length xs) (page .0) ≡ true → Good magic (page .0) h o (pageOf (page .0) xs)
@@ -63,7 +63,7 @@ good-found xs magic page h o fine there good =
 
 -- with any rooms
 good-rooms : (xs : List ℕ) (magic : ℕ) (page : PageID) (h o : ℕ) → flashFine (length xs) ≡ true → hasPage (length xs) (page .0) ≡ true → Good magic (page .0) h o (pageOf (page .0) xs)
-    → (buffers : ℕ → List ℕ) → Rooms buffers → joined (foundWith buffers xs magic page h) ≡ handsOut (flatten (payloads (pageOf (page .0) xs) h))
+    → (buffers : ℕ → List ℕ) → SomeRoom buffers → joined (foundWith buffers xs magic page h) ≡ handsOut (flatten (payloads (pageOf (page .0) xs) h))
 unfolding found
 good-rooms xs magic page h o fine there good buffers rooms =
     let bytes = pageOf (page .0) xs in
@@ -82,7 +82,7 @@ unfolding found foundWith
 found-opened xs magic page h parts f = done-by _ (openPage newReader xs magic page h .answer) (openPage newReader xs magic page h .reader) (ap (λ (x : Found). x .ends) f)
 
 -- whose reader it is makes no difference
-open-any : (r : PageReader) (xs : List ℕ) (magic : ℕ) (page : PageID) (h : ℕ) → openVerdict (length xs) h page ≡ Fine → pageHeaderFine (pageOf (page .0) xs) magic (page .0) h ≡ true
+open-any : (r : PageReader) (xs : List ℕ) (magic : ℕ) (page : PageID) (h : ℕ) → openCheck (length xs) h page ≡ Fine → pageHeaderFine (pageOf (page .0) xs) magic (page .0) h ≡ true
     → openPage newReader xs magic page h .answer ≡ Done → openPage r xs magic page h .answer ≡ Done
 unfolding openPage
 open-any r xs magic page h v f d = by (checkedAt (pageOf (page .0) xs) (pageHeaderSize + h)) refl
@@ -150,7 +150,7 @@ module _ (xs ys : List ℕ) (page : PageID) (magic h : ℕ) (more : List (List �
   now-finds : found ys magic page h ≡ finds (payloads (pageOf (page .0) xs) h ++ more)
   now-finds = good-found ys magic page h (holds .o) fine-now there-now (holds .good) ∙ ap finds (holds .are)
 
-  now-hands-out : (buffers : ℕ → List ℕ) → Rooms buffers → joined (foundWith buffers ys magic page h) ≡ handsOut (flatten (payloads (pageOf (page .0) xs) h ++ more))
+  now-hands-out : (buffers : ℕ → List ℕ) → SomeRoom buffers → joined (foundWith buffers ys magic page h) ≡ handsOut (flatten (payloads (pageOf (page .0) xs) h ++ more))
   now-hands-out buffers rooms =
       good-rooms ys magic page h (holds .o) fine-now there-now (holds .good) buffers rooms ∙ ap (λ (l : List (List ℕ)). handsOut (flatten l)) (holds .are)
 
@@ -181,7 +181,7 @@ module _ (xs : List ℕ) (page : PageID) (magic h o : ℕ) (w : PageWriter) (k :
   cut-safe = now-finds xs then page magic h new fine there (cut-elsewhere eraseValue xs page h w k pieces) holds-then
 
   -- with rooms of any sizes from one byte on it reads those bytes
-  pub cut-safe-rooms : (buffers : ℕ → List ℕ) → Rooms buffers
+  pub cut-safe-rooms : (buffers : ℕ → List ℕ) → SomeRoom buffers
       → joined (foundWith buffers (added eraseValue xs page h w k pieces) magic page h)
       ≡ handsOut (flatten (payloads (pageOf (page .0) xs) h ++ addedPayload eraseValue xs page h w k pieces))
   cut-safe-rooms = now-hands-out xs then page magic h new fine there (cut-elsewhere eraseValue xs page h w k pieces) holds-then
@@ -207,7 +207,7 @@ module _ (page : PageID) (magic h : ℕ) (ts : List Episode) (xs : List ℕ) (o 
   cut-history = now-finds xs last page magic h kept fine there (history-elsewhere eraseValue page h ts xs) holds-last
 
   -- with any rooms of a byte or more it reads those bytes
-  pub cut-history-rooms : (buffers : ℕ → List ℕ) → Rooms buffers
+  pub cut-history-rooms : (buffers : ℕ → List ℕ) → SomeRoom buffers
       → joined (foundWith buffers (history eraseValue xs page h ts) magic page h)
       ≡ handsOut (flatten (payloads (pageOf (page .0) xs) h ++ keptPayloads eraseValue xs page h ts))
   cut-history-rooms = now-hands-out xs last page magic h kept fine there (history-elsewhere eraseValue page h ts xs) holds-last

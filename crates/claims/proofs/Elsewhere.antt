@@ -19,7 +19,7 @@ use Rattle.slices.proofs.PatchLaws.{patch-below, patch-above}
 use Rattle.writer.specs.Duties.{Duty, writeDuty, commitDuty, handsBack, leaves, makes}
 use Rattle.writer.specs.Openings.{appended}
 use Rattle.writer.specs.Outcomes.{ended, endedFlash, endedOps}
-use Rattle.writer.specs.Verdicts.{writerVerdict}
+use Rattle.writer.specs.Checks.{writerCheck}
 use Rattle.writer.specs.Writes.{writeOps, written}
 use Rattle.types.specs.declared.answers.Outcome.{Outcome}
 use Rattle.types.specs.declared.answers.Outcome.the-variants as outcome
@@ -71,7 +71,7 @@ kept-then p xs ys zs a b = record { other-pages = λ q other. b .other-pages q o
 
 -- the writer that a write hands back stands on the page on which it stood
 back-page : (e : ℕ) (xs : List ℕ) (w : PageWriter) (bytes : List ℕ) (left : ℕ) → handsBack (writeDuty e xs w bytes) w left .writer .page ≡ w .page
-back-page e xs w bytes left = by (writerVerdict (length xs) w)
+back-page e xs w bytes left = by (writerCheck (length xs) w)
   where
     either : (t : Bool) → cond t (written w bytes) w .page ≡ w .page
     either true = written-page w bytes

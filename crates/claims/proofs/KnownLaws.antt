@@ -22,7 +22,7 @@ use Rattle.types.specs.Answers.{outcomeTold, pageOfTold}
 use Rattle.reader.specs.Answers.{countTold, endTestTold, dehydrationTold}
 use Rattle.reader.specs.Calls.{outcomeAfter, filled, dehydrationAfter}
 use Rattle.reader.specs.Calls.{readHeader, readHeaderBytes, openPage, openBytes, read, readBytes, skip, isAtEof, dehydrate, rehydrateFrom, pageId}
-use Rattle.reader.specs.Checks.{inRange, asking, pageVerdict, stateVerdict, openVerdict, readerVerdict}
+use Rattle.reader.specs.Checks.{inRange, asking, pageCheck, stateCheck, openCheck, readerCheck}
 use Rattle.reader.specs.Finds.{payloadOf}
 use Rattle.reader.specs.States.{stored, restored}
 use Rattle.reader.specs.declared.answers.Count.{Count}
@@ -53,13 +53,13 @@ pub record HeldKnown (flash : List ℕ) (k : Held) : Type 0 where
 -- ---- one call on the reader at hand
 
 -- a reader that is out of range is refused before any work
-out-refused : (n : ℕ) (r : PageReader) → inRange r ≡ false → (w : Refusal) × (readerVerdict n r ≡ Refused w)
-unfolding readerVerdict
+out-refused : (n : ℕ) (r : PageReader) → inRange r ≡ false → (w : Refusal) × (readerCheck n r ≡ Refused w)
+unfolding readerCheck
 out-refused n r e = by (flashFine n)
   where
-    by : (t : Bool) → (w : Refusal) × (asking t row.BadFlash (asking (inRange r) row.BadState (pageVerdict n (r .page))) ≡ Refused w)
+    by : (t : Bool) → (w : Refusal) × (asking t row.BadFlash (asking (inRange r) row.BadState (pageCheck n (r .page))) ≡ Refused w)
     by false = (row.BadFlash, refl)
-    by true = (row.BadState, ap (λ (b : Bool). asking b row.BadState (pageVerdict n (r .page))) e)
+    by true = (row.BadState, ap (λ (b : Bool). asking b row.BadState (pageCheck n (r .page))) e)
 
 module _ (flash : List ℕ) (r : PageReader) where
   read-known : (from : Origin) → Known flash from r → (buffer : List ℕ) → Known flash from (read r flash (length buffer) .reader)
@@ -164,7 +164,7 @@ module _ (flash : List ℕ) (k : Held) (known : HeldKnown flash k) where
 
   slot-filled : (slot other : ℕ) → InSlot (slotFilled k slot (dehydrate (k .reader)) other)
   unfolding dehydrate
-  slot-filled slot other = by (stateVerdict (k .reader))
+  slot-filled slot other = by (stateCheck (k .reader))
     where
       in-it : (t : Bool) → InSlot (cond t (record { state = stored (k .reader); origin = k .origin }) (k .slots other))
       in-it true = known .reader
@@ -243,7 +243,7 @@ read-puts flash (openedAt magic page h) r buffer k =
 header-puts : (flash : List ℕ) (magic : ℕ) (page : PageID) (lent : List ℕ)
     → HeaderPuts flash magic page lent (readHeaderBytes flash magic page lent) (readHeader flash magic page (length lent))
 unfolding readHeader readHeaderBytes
-header-puts flash magic page lent = by (openVerdict (length flash) (length lent) page) (pageHeaderFine bytes magic (page .0) (length lent)) refl
+header-puts flash magic page lent = by (openCheck (length flash) (length lent) page) (pageHeaderFine bytes magic (page .0) (length lent)) refl
   where
     bytes : List ℕ
     bytes = pageOf (page .0) flash

@@ -16,10 +16,10 @@ pub mod HistoryLaws
 pub mod KnownLaws
 pub mod NeverUnchecked
 pub mod OneAlloc
+pub mod OneBenchJobs
 pub mod OneCrc
 pub mod OneCursor
 pub mod OneDigits
-pub mod OneBenchJobs
 pub mod OneFlash
 pub mod OneKeys
 pub mod OnePage
@@ -32,9 +32,9 @@ pub mod OneUtf8
 pub mod OneWriter
 pub mod OutcomeLaws
 pub mod PageCutLaws
+pub mod ReferenceCasesHold
 pub mod Retried
 pub mod SkipIsRead
-pub mod StarredNumbers
 pub mod WorkedCalls
 pub mod WorkedHistory
 pub mod WorkedLaws

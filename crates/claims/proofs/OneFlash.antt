@@ -1,6 +1,6 @@
 -- One outcome for every function of `flash` that is open to callers: each line cites the function's own promise. Assumes nothing.
 use Rattle.flash.proofs.geometry.check_flash.Reads.{Learnt as check-flash}
-use Rattle.flash.proofs.geometry.page_count.Reads.{Learnt as page-count}
+use Rattle.flash.proofs.geometry.whole_pages.Reads.{Learnt as whole-pages}
 use Rattle.flash.proofs.geometry.has_page.Reads.{Learnt as has-page}
 use Rattle.flash.proofs.geometry.page_start.Reads.{Learnt as page-start}
 use Rattle.flash.proofs.geometry.page_of.Reads.{Learnt as page-of}
@@ -12,8 +12,8 @@ use Rattle.claims.proofs.OutcomeLaws.{one, two}
 pub one-check-flash : OneOutcome check-flash (λ r e. r)
 one-check-flash k a r r′ e e′ p q = one p q
 
-pub one-page-count : OneOutcome page-count (λ r e. r)
-one-page-count k a r r′ e e′ p q = one p q
+pub one-whole-pages : OneOutcome whole-pages (λ r e. r)
+one-whole-pages k a r r′ e e′ p q = one p q
 
 pub one-has-page : OneOutcome has-page (λ r e. r)
 one-has-page k a r r′ e e′ p q = one p q

@@ -11,7 +11,7 @@ use Rattle.script.proofs.space.script_space.Reads.{Learnt as script-space}
 use Rattle.script.proofs.space.line_space.Reads.{Learnt as line-space}
 use Rattle.script.proofs.space.entry_space.Reads.{Learnt as entry-space}
 use Rattle.script.proofs.words.end_from.Reads.{Learnt as end-from}
-use Rattle.script.proofs.words.word_at.Reads.{Learnt as word-at}
+use Rattle.script.proofs.words.nth_word.Reads.{Learnt as nth-word}
 use Rattle.script.proofs.words.word_count.Reads.{Learnt as word-count}
 use Rattle.script.proofs.space.page_space.Reads.{Learnt as page-space}
 use Rattle.script.proofs.space.flash_space.Reads.{Learnt as flash-space}
@@ -29,8 +29,8 @@ one-line-space k a r r′ e e′ p q = one (p .0) (q .0)
 pub one-end-from : OneOutcome end-from (λ r e. r)
 one-end-from k a r r′ e e′ p q = one p q
 
-pub one-word-at : OneOutcome word-at (λ r e. r .now)
-one-word-at k a r r′ e e′ p q = one p q
+pub one-nth-word : OneOutcome nth-word (λ r e. r .now)
+one-nth-word k a r r′ e e′ p q = one p q
 
 pub one-word-count : OneOutcome word-count (λ r e. r)
 one-word-count k a r r′ e e′ p q = one p q

@@ -2,8 +2,8 @@
 use mathlib.Core.Path.{ap}
 use Prim.Native.Nat.{ℕ}
 use Rattle.types.proofs.config.the_build.Reads.{Learnt as the-build}
-use Rattle.types.proofs.num.least.Reads.{Learnt as least}
-use Rattle.types.proofs.num.less.Reads.{Learnt as less}
+use Rattle.types.proofs.num.min.Reads.{Learnt as min}
+use Rattle.types.proofs.num.minus.Reads.{Learnt as minus}
 use Rattle.types.proofs.page_id.PageID.zero.Reads.{Learnt as PageID-zero}
 use Rattle.types.proofs.page_id.PageID.from_raw.Reads.{Learnt as PageID-from-raw}
 use Rattle.types.proofs.page_id.PageID.index.Reads.{Learnt as PageID-index}
@@ -28,11 +28,11 @@ use Rattle.claims.proofs.OutcomeLaws.{one}
 pub one-the-build : OneOutcome the-build (λ r e. r)
 one-the-build k a r r′ e e′ p q = one p q
 
-pub one-least : OneOutcome least (λ r e. r)
-one-least k a r r′ e e′ p q = one p q
+pub one-min : OneOutcome min (λ r e. r)
+one-min k a r r′ e e′ p q = one p q
 
-pub one-less : OneOutcome less (λ r e. r)
-one-less k a r r′ e e′ p q = one p q
+pub one-minus : OneOutcome minus (λ r e. r)
+one-minus k a r r′ e e′ p q = one p q
 
 pub one-PageID-zero : OneOutcome PageID-zero (λ r e. r)
 one-PageID-zero k a r r′ e e′ p q = ap (λ (n : ℕ). record { 0 = n }) (one p q)

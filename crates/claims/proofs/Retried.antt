@@ -17,7 +17,7 @@ use Rattle.page.specs.Headers.{headerFine}
 use Rattle.writer.specs.Duties.{Duty, writeDuty, handsBack, leaves}
 use Rattle.writer.specs.Outcomes.{ended, endedFlash, wrote}
 use Rattle.writer.specs.States.{inRange}
-use Rattle.writer.specs.Verdicts.{writerVerdict, headingVerdict}
+use Rattle.writer.specs.Checks.{writerCheck, headingCheck}
 use Rattle.writer.specs.Writes.{takes}
 use Rattle.types.specs.declared.answers.Outcome.the-variants.{Done, Refused}
 use Rattle.writer.specs.declared.page_writer.PageWriter.{PageWriter}
@@ -46,7 +46,7 @@ heading-by true false r p a = let z : _≡_ {A = ℕ} 0 1 = cc in omega arith
 heading-by true true r p a = writer-by true r p a
 
 never-cut : (e : ℕ) (call : AddCall) (xs : List ℕ) (w : PageWriter) → dutyOf e call xs w .verdict ≡ verdict.Refused Cut → ⊥
-unfolding writerVerdict headingVerdict
+unfolding writerCheck headingCheck
 never-cut e (writes bytes) xs w = writer-by (flashFine (length xs)) (inRange w) (hasPage (length xs) (w .page .0))
 never-cut e commits xs w = writer-by (flashFine (length xs)) (inRange w) (hasPage (length xs) (w .page .0))
 never-cut e (heads magic header) xs w =

@@ -12,12 +12,12 @@ use Rattle.types.specs.declared.refusal.Refusal.{Refusal}
 use Rattle.types.specs.declared.refusal.Verdict.{Verdict}
 use Rattle.types.specs.declared.refusal.Verdict.the-variants.{Fine, Refused}
 use Rattle.types.proofs.TestLaws.{le-or-lt}
-use Rattle.flash.specs.Geometry.{pageCount, pageOf}
+use Rattle.flash.specs.Geometry.{wholePages, pageOf}
 use Rattle.page.specs.Chunks.{nextOffset}
 use Rattle.page.specs.Walks.{Chunk, walkFrom}
 use Rattle.page.proofs.LaidLaws.{All}
 use Rattle.reader.specs.Calls.{skip}
-use Rattle.reader.specs.Checks.{readerVerdict}
+use Rattle.reader.specs.Checks.{readerCheck}
 use Rattle.reader.specs.Finds.{Joined, NotEmpty, without}
 use Rattle.reader.specs.declared.answers.Count.{Count}
 use Rattle.reader.specs.declared.answers.Count.the-variants as count
@@ -59,19 +59,19 @@ refused-answer n m w h = ap (λ (t : Bool). cond t (count.Bytes n) (count.Refuse
 -- ---- the claim
 
 -- the reader behind a skip passes the checks too
-behind-fine : (flash : List ℕ) (r : PageReader) (n : ℕ) → readerVerdict (length flash) r ≡ Fine → skip r flash n .reader .page ≡ r .page
-    → readerVerdict (length flash) (skip r flash n .reader) ≡ Fine
+behind-fine : (flash : List ℕ) (r : PageReader) (n : ℕ) → readerCheck (length flash) r ≡ Fine → skip r flash n .reader .page ≡ r .page
+    → readerCheck (length flash) (skip r flash n .reader) ≡ Fine
 behind-fine flash r n v same =
     let known = reader-known (length flash) r v in
     let s = skip r flash n .reader in
     let range = range-known s (skip-in-range r flash (range-in r (known .range)) n) in
-    reader-fine (length flash) s (known .flash .fine) (subst (λ (p : PageID). p .0 < pageCount (length flash)) (sym same) (known .flash .has)) range
+    reader-fine (length flash) s (known .flash .fine) (subst (λ (p : PageID). p .0 < wholePages (length flash)) (sym same) (known .flash .has)) range
 
 -- from any reader that passes its checks, with buffers of any sizes from 1 on. A reader that is refused finds nothing, and refuses a
 -- skip of 0 too, so the first premise is needed. And where an empty chunk stands behind the reader's own, a read that arrives there
 -- answers 0, so that nothing more is found, while a skip goes on over it: of chunks of 1, 0 and 1 bytes reads find 1 and a skip of 2
 -- answers 2
-pub skip-is-read : (flash : List ℕ) (r : PageReader) (n : ℕ) (before behind : ℕ → List ℕ) → readerVerdict (length flash) r ≡ Fine → NoneEmptyBehind flash r
+pub skip-is-read : (flash : List ℕ) (r : PageReader) (n : ℕ) (before behind : ℕ → List ℕ) → readerCheck (length flash) r ≡ Fine → NoneEmptyBehind flash r
     → ((i : ℕ) → 1 ≤ length (before i)) → ((i : ℕ) → 1 ≤ length (behind i)) → SkipIsRead flash r n before behind
 skip-is-read flash r n before behind v none some others = by (skip r flash n .answer) (skip r flash n .reader) refl (skip-passes flash r n v)
   where
@@ -98,8 +98,8 @@ skip-is-read flash r n before behind v none some others = by (skip r flash n .an
     by : (a : Count) (s : PageReader) → skip r flash n ≡ record { answer = a; reader = s } → SkippingBy page r n s a → SkipIsRead flash r n before behind
     by (count.Bytes m) s went k =
         let here : skip r flash n .reader ≡ s = ap (λ (p : Passage). p .reader) went in
-        let fine : readerVerdict (length flash) s ≡ Fine =
-        subst (λ (q : PageReader). readerVerdict (length flash) q ≡ Fine) here (behind-fine flash r n v (ap (λ (q : PageReader). q .page) here ∙ k .page-kept)) in
+        let fine : readerCheck (length flash) s ≡ Fine =
+        subst (λ (q : PageReader). readerCheck (length flash) q ≡ Fine) here (behind-fine flash r n v (ap (λ (q : PageReader). q .page) here ∙ k .page-kept)) in
         let same : pageOf (s .page .0) flash ≡ page = ap (λ (p : PageID). pageOf (p .0) flash) (k .page-kept) in
         let rest : foundFrom behind flash s ≡ remaining page s =
         reads-remaining flash s fine (subst (λ (b : List ℕ). FullBehind b s) (sym same) (k .full full)) behind others ∙ ap (λ (b : List ℕ). remaining b s) same in

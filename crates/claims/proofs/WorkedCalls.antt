@@ -19,9 +19,9 @@ use Rattle.writer.specs.Commits.{chunkOps}
 use Rattle.writer.specs.Duties.{commitDuty, makes}
 use Rattle.writer.specs.Headings.{headerOps}
 use Rattle.writer.specs.Openings.{appended}
-use Rattle.writer.specs.Starred.{Place, placeOf}
+use Rattle.writer.specs.ReferenceCases.{Extent, extentOf}
 use Rattle.writer.specs.States.{fresh, inRange, newWriter}
-use Rattle.writer.specs.Verdicts.{writerVerdict, headingVerdict, openVerdict}
+use Rattle.writer.specs.Checks.{writerCheck, headingCheck, openCheck}
 use Rattle.writer.specs.Writes.{groupOf, bufferOf, payloadOps, takingOps, written}
 use Rattle.writer.specs.declared.answers.Opened.{Opened}
 use Rattle.types.specs.declared.answers.Outcome.the-variants.{Done, Refused}
@@ -42,7 +42,7 @@ abbrev writer : PageWriter
 writer = fresh false workedPage 0 12
 
 reopens : reopened ≡ record { answer = Done; writer = writer; left = 9 }
-unfolding word bytesOf blank pageHeader headedFlash chunkAt walk walkFrom allErased appended openVerdict
+unfolding word bytesOf blank pageHeader headedFlash chunkAt walk walkFrom allErased appended openCheck
 reopens = refl
 
 -- ---- two chunks
@@ -50,13 +50,13 @@ reopens = refl
 abbrev calls : List Making
 calls = callsMake eraseValue twoChunks writer 9 headedFlash
 
-abbrev place : ℕ → ℕ → Place
+abbrev place : ℕ → ℕ → Extent
 place from size = record { from = from; size = size }
 
 -- call by call: the payload and then the header, of the chunk at 12 and of the one at 24, and the page header at 0 between them
-pub worked-stores : map (λ (m : Making). map placeOf (m .ops)) calls
+pub worked-stores : map (λ (m : Making). map extentOf (m .ops)) calls
     ≡ [] ∷ (place 20 4 ∷ place 12 8 ∷ []) ∷ (place 0 12 ∷ []) ∷ [] ∷ (place 32 4 ∷ place 24 8 ∷ []) ∷ []
-unfolding bytesOf over patch blank pageHeader headedFlash inRange writerVerdict headingVerdict chunkHeader chunkOps headerOps groupOf bufferOf payloadOps takingOps placeOf callsMake
+unfolding bytesOf over patch blank pageHeader headedFlash inRange writerCheck headingCheck chunkHeader chunkOps headerOps groupOf bufferOf payloadOps takingOps extentOf callsMake
 worked-stores = refl
 
 pub worked-on-erased : AllLand eraseValue calls
@@ -66,11 +66,11 @@ worked-on-erased =
 
 -- nine stores were allowed and five were made, so four are left
 pub worked-count : (length (allOps calls) ≡ 5) × (callsLeave eraseValue twoChunks writer 9 headedFlash ≡ 4)
-unfolding bytesOf over patch blank pageHeader headedFlash inRange writerVerdict headingVerdict chunkHeader chunkOps headerOps groupOf bufferOf payloadOps takingOps callsMake callsLeave
+unfolding bytesOf over patch blank pageHeader headedFlash inRange writerCheck headingCheck chunkHeader chunkOps headerOps groupOf bufferOf payloadOps takingOps callsMake callsLeave
 worked-count = (refl, refl)
 
 pub worked-counted : 4 + length (allOps calls) ≡ 9
-unfolding bytesOf over patch blank pageHeader headedFlash inRange writerVerdict headingVerdict chunkHeader chunkOps headerOps groupOf bufferOf payloadOps takingOps callsLeave
+unfolding bytesOf over patch blank pageHeader headedFlash inRange writerCheck headingCheck chunkHeader chunkOps headerOps groupOf bufferOf payloadOps takingOps callsLeave
 worked-counted = counts-made eraseValue twoChunks writer 9 headedFlash
 
 -- ---- a commit of one byte that is cut after its first store
@@ -82,11 +82,11 @@ abbrev wasCut : WriterLeft
 wasCut = called eraseValue commits pending 1 headedFlash
 
 cut-there : wasCut .ended .answer ≡ Refused Cut
-unfolding bytesOf over patch blank pageHeader headedFlash inRange writerVerdict chunkHeader chunkOps groupOf bufferOf
+unfolding bytesOf over patch blank pageHeader headedFlash inRange writerCheck chunkHeader chunkOps groupOf bufferOf
 cut-there = refl
 
 done-at-once : called eraseValue commits pending 2 headedFlash .ended .answer ≡ Done
-unfolding bytesOf over patch blank pageHeader headedFlash inRange writerVerdict chunkHeader chunkOps groupOf bufferOf
+unfolding bytesOf over patch blank pageHeader headedFlash inRange writerCheck chunkHeader chunkOps groupOf bufferOf
 done-at-once = refl
 
 -- made again with two stores it is done, and the flash is that of a commit with two stores from the start
@@ -98,7 +98,7 @@ worked-retried =
 
 -- byte 24 lies behind both stores, and is as it was
 both-before : Uncovered 0 (makes (commitDuty eraseValue headedFlash pending) 2) 24
-unfolding bytesOf over patch blank pageHeader headedFlash inRange writerVerdict chunkHeader chunkOps groupOf bufferOf
+unfolding bytesOf over patch blank pageHeader headedFlash inRange writerCheck chunkHeader chunkOps groupOf bufferOf
 both-before =
     let at-once : 24 ≤ 24 = le-refl 24 in
     let later : 20 ≤ 24 = omega arith in
@@ -112,7 +112,7 @@ abbrev tooLong : AddCall
 tooLong = heads workedMagic (1 ∷ 2 ∷ 3 ∷ 4 ∷ [])
 
 refused-there : called eraseValue tooLong pending 1 headedFlash .ended .answer ≡ Refused BadHeader
-unfolding bytesOf blank pageHeader headedFlash headingVerdict
+unfolding bytesOf blank pageHeader headedFlash headingCheck
 refused-there = refl
 
 pub worked-refused : calledAgain eraseValue tooLong (called eraseValue tooLong pending 1 headedFlash) 0 .ended .answer ≡ Refused BadHeader

@@ -18,7 +18,7 @@ use Rattle.reader.specs.Finds.{found, foundWith, joined}
 use Rattle.writer.specs.Commits.{chunkOps}
 use Rattle.writer.specs.Openings.{appended}
 use Rattle.writer.specs.States.{newWriter}
-use Rattle.writer.specs.Verdicts.{openVerdict}
+use Rattle.writer.specs.Checks.{openCheck}
 use Rattle.writer.specs.Writes.{payloadOps, takingOps}
 use Rattle.claims.specs.Additions.{added, addition, additionOps, addedPayload}
 use Rattle.claims.specs.Pages.{AllBytes, Good, payloads, finds, handsOut, Opens}
@@ -48,7 +48,7 @@ worked-good = record { whole = refl; length-fine = refl; header = refl; ends = r
 -- what is found in all, by computation
 worked-payloads : (payloads (pageOf 0 workedFlash) 0 ++ addedPayload eraseValue workedFlash workedPage 0 newWriter 1 six ≡ (5 ∷ []) ∷ [])
     × (payloads (pageOf 0 workedFlash) 0 ++ addedPayload eraseValue workedFlash workedPage 0 newWriter 2 six ≡ (5 ∷ []) ∷ (6 ∷ []) ∷ [])
-unfolding word bytesOf patch blank chunkHeader pageHeader chunkOfOne workedFlash chunkAt walk walkFrom allErased chunkOps appended openVerdict payloadOps takingOps addition additionOps
+unfolding word bytesOf patch blank chunkHeader pageHeader chunkOfOne workedFlash chunkAt walk walkFrom allErased chunkOps appended openCheck payloadOps takingOps addition additionOps
 worked-payloads = (refl, refl)
 
 -- after one store of two the old byte is found, after both the two of them

@@ -18,7 +18,7 @@ use Rattle.page.specs.Headers.{pageHeader, pageHeaderFine}
 use Rattle.page.specs.Walks.{Chunk, walk, walkFrom}
 use Rattle.page.proofs.LaidLaws.{All}
 use Rattle.reader.specs.Calls.{openPage, openBytes, read, readBytes, skip, dehydrate, rehydrateFrom}
-use Rattle.reader.specs.Checks.{openVerdict, readerVerdict}
+use Rattle.reader.specs.Checks.{openCheck, readerCheck}
 use Rattle.reader.specs.Finds.{NotEmpty, reads}
 use Rattle.reader.specs.Moves.{moved, ready, restOf, skipBy, skipped}
 use Rattle.reader.specs.States.{newReader}
@@ -44,7 +44,7 @@ pub worked-asked : Leaves (openIt ∷ []) 0 (5 ∷ 9 ∷ [])
     × (Leaves (openIt ∷ readTwo ∷ []) 1 (8 ∷ 9 ∷ [])
     × (Leaves (openIt ∷ readTwo ∷ readTwo ∷ []) 1 (8 ∷ 9 ∷ []) × Leaves (openIt ∷ readTwo ∷ readTwo ∷ readTwo ∷ []) 1 (8 ∷ 9 ∷ [])))
 unfolding word bytesOf crc.bits crc.number crc.message crc.among crc.terms crc.generator xor crc.plus crc.divided crc.dividend crc.remainder crc.published over blank chunkHeader
-    pageHeader chunkOfOne damagedFlash pageHeaderFine chunkAt checkedAt moved ready restOf openVerdict readerVerdict openPage openBytes read readBytes readerLeft afterCall afterCalls
+    pageHeader chunkOfOne damagedFlash pageHeaderFine chunkAt checkedAt moved ready restOf openCheck readerCheck openPage openBytes read readBytes readerLeft afterCall afterCalls
 worked-asked = ((refl, refl), ((refl, refl), ((refl, refl), (refl, refl))))
 
 -- that byte is covered: it is the payload of the walk's first chunk, whose sum is right
@@ -64,7 +64,7 @@ worked-covered = record {
 -- a reader that was kept, read on, opened anew and brought back puts that byte again, and it is known where it was opened
 pub worked-kept : NoneUnchecked damagedFlash (afterCalls damagedFlash atFirst (openIt ∷ keepIt ∷ readTwo ∷ openIt ∷ bringItBack ∷ [])) readTwo
 unfolding word bytesOf crc.bits crc.number crc.message crc.among crc.terms crc.generator xor crc.plus crc.divided crc.dividend crc.remainder crc.published over blank chunkHeader
-    pageHeader chunkOfOne damagedFlash pageHeaderFine chunkAt checkedAt moved ready restOf openVerdict readerVerdict openPage openBytes read readBytes readerLeft afterCall afterCalls
+    pageHeader chunkOfOne damagedFlash pageHeaderFine chunkAt checkedAt moved ready restOf openCheck readerCheck openPage openBytes read readBytes readerLeft afterCall afterCalls
     dehydrate rehydrateFrom
 worked-kept = record {
   puts = record { bytes = 5 ∷ []; many = refl; covered = worked-covered; put = refl };
@@ -74,7 +74,7 @@ worked-kept = record {
 -- a read of the damaged chunk is refused, and changes nothing
 pub worked-refusal : NoneUnchecked damagedFlash (afterCalls damagedFlash atFirst (openIt ∷ readTwo ∷ [])) readTwo
 unfolding word bytesOf crc.bits crc.number crc.message crc.among crc.terms crc.generator xor crc.plus crc.divided crc.dividend crc.remainder crc.published over blank chunkHeader
-    pageHeader chunkOfOne damagedFlash pageHeaderFine chunkAt checkedAt moved ready restOf openVerdict readerVerdict openPage openBytes read readBytes readerLeft afterCall afterCalls
+    pageHeader chunkOfOne damagedFlash pageHeaderFine chunkAt checkedAt moved ready restOf openCheck readerCheck openPage openBytes read readBytes readerLeft afterCall afterCalls
 worked-refusal = record { puts = refl; refused = λ e. (refl, refl) }
 
 -- ---- a skip over a border
@@ -96,7 +96,7 @@ Skips flash before passed behind =
 -- three bytes are found; a skip of two answers 2, and the last one is found behind it
 pub worked-skip : Skips twoChunkFlash (5 ∷ 6 ∷ 7 ∷ []) 2 (7 ∷ [])
 unfolding word bytesOf crc.bits crc.number crc.message crc.among crc.terms crc.generator xor crc.plus crc.divided crc.dividend crc.remainder crc.published over blank chunkHeader
-    pageHeader chunkOfOne twoChunkFlash pageHeaderFine chunkAt checkedAt moved ready restOf skipBy skipped openVerdict readerVerdict openPage read readBytes skip reads flatten
+    pageHeader chunkOfOne twoChunkFlash pageHeaderFine chunkAt checkedAt moved ready restOf skipBy skipped openCheck readerCheck openPage read readBytes skip reads flatten
 worked-skip = (refl, (refl, refl))
 
 among-all : (P : Chunk → Type 0) (cs : List Chunk) → All P cs → (c : Chunk) → Among c cs → P c
@@ -106,9 +106,9 @@ among-all P (d ∷ ds) all c a = ⊎-elim (λ (q : c ≡ d). subst P (sym q) (al
 abbrev behindFirst : List Chunk
 behindFirst = walkFrom (pageOf 0 twoChunkFlash) (nextOffset (openedOn twoChunkFlash .offset) (openedOn twoChunkFlash .len)) .chunks
 
-premises : (openedOn twoChunkFlash .page .0 ≡ 0) × ((readerVerdict (length twoChunkFlash) (openedOn twoChunkFlash) ≡ Fine) × All NotEmpty behindFirst)
+premises : (openedOn twoChunkFlash .page .0 ≡ 0) × ((readerCheck (length twoChunkFlash) (openedOn twoChunkFlash) ≡ Fine) × All NotEmpty behindFirst)
 unfolding word bytesOf crc.bits crc.number crc.message crc.among crc.terms crc.generator xor crc.plus crc.divided crc.dividend crc.remainder crc.published blank chunkHeader
-    pageHeader chunkOfOne twoChunkFlash pageHeaderFine chunkAt checkedAt openVerdict readerVerdict openPage walk walkFrom
+    pageHeader chunkOfOne twoChunkFlash pageHeaderFine chunkAt checkedAt openCheck readerCheck openPage walk walkFrom
 premises = (refl, (refl, (omega arith, tt)))
 
 -- the statement holds of that page, which meets the premises
@@ -120,5 +120,5 @@ worked-skip-is-read =
 -- with an empty chunk in between, where a read answers 0, one byte is found in front of a skip that passes two
 pub worked-empty : Skips emptyBetweenFlash (5 ∷ []) 2 []
 unfolding word bytesOf crc.bits crc.number crc.message crc.among crc.terms crc.generator xor crc.plus crc.divided crc.dividend crc.remainder crc.published over blank chunkHeader
-    pageHeader chunkOfOne emptyBetweenFlash pageHeaderFine chunkAt checkedAt moved ready restOf skipBy skipped openVerdict readerVerdict openPage read readBytes skip reads flatten
+    pageHeader chunkOfOne emptyBetweenFlash pageHeaderFine chunkAt checkedAt moved ready restOf skipBy skipped openCheck readerCheck openPage read readBytes skip reads flatten
 worked-empty = (refl, (refl, refl))

@@ -1,13 +1,13 @@
 pub mod Additions
 pub mod Again
 pub mod AnswerTable
-pub mod Pages
 pub mod Histories
+pub mod Outcomes
+pub mod Pages
 pub mod ReaderHistories
+pub mod ReferenceCases
 pub mod Sequences
-pub mod Untouched
 pub mod Skips
+pub mod Untouched
 pub mod Worked
 pub mod WorkedReads
-pub mod Starred
-pub mod Outcomes

@@ -55,8 +55,8 @@ abbrev pub handsOut : List ℕ → Joined
 handsOut bytes = record { bytes = bytes; ends = Fine }
 
 -- buffers, one for each read, with room for at least one byte
-abbrev pub Rooms : (ℕ → List ℕ) → Type 0
-Rooms buffers = (i : ℕ) → 1 ≤ length (buffers i)
+abbrev pub SomeRoom : (ℕ → List ℕ) → Type 0
+SomeRoom buffers = (i : ℕ) → 1 ≤ length (buffers i)
 
 -- open of a page with h bytes of higher header is done for any reader, and fills the header buffer with these bytes
 pub record Opens (flash : List ℕ) (magic : ℕ) (page : PageID) (h : ℕ) (bytes : List ℕ) : Type 0 where

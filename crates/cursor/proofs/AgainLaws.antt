@@ -11,7 +11,7 @@ use Rattle.types.specs.Build.{fileCount}
 use Rattle.types.specs.declared.refusal.Refusal.{Refusal}
 use Rattle.run.specs.declared.bound.Bound.{Bound}
 use Rattle.cursor.specs.Checks.{goodRuns, nextCheck}
-use Rattle.cursor.specs.Next.{answerTo, placesBy, putBy, movedBy, nextBy, nextOf, nextKey, nextValue}
+use Rattle.cursor.specs.Next.{entryAnswer, placesBy, putBy, movedBy, nextBy, nextOf, nextKey, nextValue}
 use Rattle.cursor.specs.Pass.{lookAt, lowestKey, shows, withGone, withHolder, withLowest, change, passFrom, unseen, passOf}
 use Rattle.cursor.specs.Places.{gone, placeOf}
 use Rattle.cursor.specs.Runs.{runOf}
@@ -170,12 +170,12 @@ module _ (bytes ends : List ℕ) (bound : Bound) (upper : List ℕ) where
     moved-answer a p e = e
 
     fine-next : (c : Cursor) → nextCheck (length bytes) ends (c .places) ≡ check.Fine → nextOf bytes ends bound upper c keyRoom valueRoom
-        ≡ movedBy (answerTo bytes ends (settled bytes ends bound upper (c .places) .lowest) keyRoom valueRoom) (settled bytes ends bound upper (c .places))
+        ≡ movedBy (entryAnswer bytes ends (settled bytes ends bound upper (c .places) .lowest) keyRoom valueRoom) (settled bytes ends bound upper (c .places))
     unfolding nextOf nextBy
     fine-next c k = rw k
 
     -- from the places of a last pass that is refused, the call is refused and they stay
-    last-refused : goodRuns (length bytes) ends ≡ true → (p : Pass) → Last p → answerTo bytes ends (p .lowest) keyRoom valueRoom ≡ Refused why
+    last-refused : goodRuns (length bytes) ends ≡ true → (p : Pass) → Last p → entryAnswer bytes ends (p .lowest) keyRoom valueRoom ≡ Refused why
         → nextOf bytes ends bound upper (record { places = p .places }) keyRoom valueRoom
         ≡ record { cursor = record { places = p .places }; answer = Refused why }
     last-refused g p k e =
@@ -183,8 +183,8 @@ module _ (bytes ends : List ℕ) (bound : Bound) (upper : List ℕ) where
         let a = last-again p k in
         let s = settled bytes ends bound upper (p .places) in
         fine-next (record { places = p .places }) (good-check ends (p .places) good (length bytes) g)
-        ∙ refused-moved (answerTo bytes ends (s .lowest) keyRoom valueRoom) s
-        (ap (λ (x : Lowest). answerTo bytes ends x keyRoom valueRoom) (a .lowest) ∙ e)
+        ∙ refused-moved (entryAnswer bytes ends (s .lowest) keyRoom valueRoom) s
+        (ap (λ (x : Lowest). entryAnswer bytes ends x keyRoom valueRoom) (a .lowest) ∙ e)
         ∙ ap (λ (r : List RunPlace). record { cursor = record { places = r }; answer = Refused why }) (a .places)
 
     next-by : (c : Cursor) (v : Verdict) → nextCheck (length bytes) ends (c .places) ≡ v
@@ -195,7 +195,7 @@ module _ (bytes ends : List ℕ) (bound : Bound) (upper : List ℕ) where
     next-by c (check.Refused x) k e = rw k
     next-by c check.Fine k e =
         let p = settled bytes ends bound upper (c .places) in
-        let a = answerTo bytes ends (p .lowest) keyRoom valueRoom in
+        let a = entryAnswer bytes ends (p .lowest) keyRoom valueRoom in
         let r : a ≡ Refused why = moved-answer a p e in
         let g = check-good ends (c .places) (length bytes) k in
         ap (λ (m : Moved). nextOf bytes ends bound upper (m .cursor) keyRoom valueRoom) (refused-moved a p r)

@@ -9,13 +9,13 @@ use lib.ListN.{length, set}
 use Rattle.types.specs.Build.{fileCount}
 use Rattle.types.specs.declared.refusal.Refusal.{Refusal}
 use Rattle.types.specs.declared.refusal.Refusal.the-variants.{BadRuns}
-use Rattle.run.specs.Search.{soughtIn}
+use Rattle.run.specs.Search.{searchIn}
 use Rattle.run.specs.declared.bound.Bound.{Bound}
 use Rattle.run.specs.declared.search.Sought.{Sought}
 use Rattle.run.specs.declared.search.Sought.the-variants as sought
 use Rattle.cursor.specs.Checks.{goodRuns, newCheck, nextCheck}
-use Rattle.cursor.specs.New.{refusedNew, placed, newFrom, newBy, newOf}
-use Rattle.cursor.specs.Next.{answerTo, placesBy, putBy, movedBy, nextBy, nextOf, nextKey, nextValue}
+use Rattle.cursor.specs.New.{refusedNew, afterSearch, newFrom, newBy, newOf}
+use Rattle.cursor.specs.Next.{entryAnswer, placesBy, putBy, movedBy, nextBy, nextOf, nextKey, nextValue}
 use Rattle.cursor.specs.Pass.{lowestKey, lowestValue}
 use Rattle.cursor.specs.Places.{atPlace, allGone}
 use Rattle.cursor.specs.Runs.{runOf}
@@ -62,7 +62,7 @@ module _ (bytes ends : List ℕ) (bound : Bound) (upper : List ℕ) (c : Cursor)
     next-refused why q = (rw (← is, q), (rw (← is, q), rw (← is, q)))
 
     pub next-settled : ch ≡ check.Fine → (p : Pass) → p ≡ settled bytes ends bound upper (c .places)
-        → (a : NextAnswer) → a ≡ answerTo bytes ends (p .lowest) (length key) (length value)
+        → (a : NextAnswer) → a ≡ entryAnswer bytes ends (p .lowest) (length key) (length value)
         → (x y : List ℕ)
         → (x ≡ putBy a (lowestKey bytes ends (p .lowest)) key) × (y ≡ putBy a (lowestValue bytes ends (p .lowest)) value)
         → (row : List RunPlace) → row ≡ placesBy a p → Answered (record { cursor = record { places = row }; answer = a }) x y
@@ -89,22 +89,22 @@ module _ (bytes ends : List ℕ) (bound : Bound) (lower : List ℕ) where
     unfolding newFrom
     all-placed h = let z : length ends - i ≡ 0 = omega arith in rw z at rest
 
-    module _ (more : i < length ends) (run : List ℕ) (r : run ≡ runOf bytes ends i) (s : Sought) (is : s ≡ soughtIn run bound lower) where
-      turn : (w : Sought) → s ≡ w → placed w i places (λ p. newFrom bytes ends bound lower (length ends - (i + 1)) (i + 1) p) ≡ answer
+    module _ (more : i < length ends) (run : List ℕ) (r : run ≡ runOf bytes ends i) (s : Sought) (is : s ≡ searchIn run bound lower) where
+      turn : (w : Sought) → s ≡ w → afterSearch w i places (λ p. newFrom bytes ends bound lower (length ends - (i + 1)) (i + 1) p) ≡ answer
       unfolding newFrom
       turn w q =
           let z : length ends - i ≡ suc (length ends - (i + 1)) = omega arith in
           rw (add-one i) (rw (← q, is, r) (rw (z, add-one i) at rest))
 
       pub placed-gone : s ≡ sought.Gone → newFrom bytes ends bound lower (length ends - (i + 1)) (i + 1) places ≡ answer
-      unfolding placed
+      unfolding afterSearch
       placed-gone q = turn sought.Gone q
 
       pub placed-at : (at : ℕ) → s ≡ sought.At at
           → newFrom bytes ends bound lower (length ends - (i + 1)) (i + 1) (set places i (atPlace at)) ≡ answer
-      unfolding placed
+      unfolding afterSearch
       placed-at at q = turn (sought.At at) q
 
       pub placed-refused : (why : Refusal) → s ≡ sought.Refused why → refusedNew why ≡ answer
-      unfolding placed
+      unfolding afterSearch
       placed-refused why q = turn (sought.Refused why) q

@@ -19,7 +19,7 @@ use Rattle.run.specs.Records.{keyIn, valueIn}
 use Rattle.run.specs.declared.bound.Bound.{Bound}
 use Rattle.run.specs.declared.record.Record.{Record}
 use Rattle.cursor.specs.Checks.{nextCheck}
-use Rattle.cursor.specs.Next.{fitted, answerBy, answerTo, placesBy, putBy, movedBy, nextBy, nextOf, nextKey, nextValue}
+use Rattle.cursor.specs.Next.{fitted, answerBy, entryAnswer, placesBy, putBy, movedBy, nextBy, nextOf, nextKey, nextValue}
 use Rattle.cursor.specs.Pass.{lowestKey, lowestValue, passOf}
 use Rattle.cursor.specs.Runs.{runOf}
 use Rattle.cursor.specs.Settle.{isHidden, left, settleFrom, settled}
@@ -92,13 +92,13 @@ module _ (bytes ends : List ℕ) (bound : Bound) (upper : List ℕ) where
       pub steps : nextOf bytes ends bound upper c (length key) (length value) .cursor .places ≡ passOf bytes ends bound upper start .stepped
 
     fine-by : (ch : Verdict) (p : Pass) → nextBy ch bytes ends p (length key) (length value) c .answer ≡ Entry k v
-        → (ch ≡ check.Fine) × (answerTo bytes ends (p .lowest) (length key) (length value) ≡ Entry k v)
+        → (ch ≡ check.Fine) × (entryAnswer bytes ends (p .lowest) (length key) (length value) ≡ Entry k v)
         × (nextBy ch bytes ends p (length key) (length value) c .cursor .places ≡ p .stepped)
     unfolding nextBy movedBy placesBy
     fine-by check.Fine p e = (refl, e, ap (λ (a : NextAnswer). placesBy a p) e)
     fine-by (check.Refused why) p e = let z : _≡_ {A = ℕ} 0 1 = cc in absurd (omega arith)
 
-    found-by : (l : Lowest) → answerTo bytes ends l (length key) (length value) ≡ Entry k v
+    found-by : (l : Lowest) → entryAnswer bytes ends l (length key) (length value) ≡ Entry k v
         → (j : ℕ) × (x : Record) × (l ≡ low.Found j x) × (length (keyIn (runOf bytes ends j) x) ≡ k)
         × (length (valueIn (runOf bytes ends j) x) ≡ v) × (length (keyIn (runOf bytes ends j) x) ≤ length key)
         × (length (valueIn (runOf bytes ends j) x) ≤ length value)
@@ -109,7 +109,7 @@ module _ (bytes ends : List ℕ) (bound : Bound) (upper : List ℕ) where
 
     module _ (e : nextOf bytes ends bound upper c (length key) (length value) .answer ≡ Entry k v) where
       fine : (nextCheck (length bytes) ends (c .places) ≡ check.Fine)
-          × (answerTo bytes ends (last .lowest) (length key) (length value) ≡ Entry k v)
+          × (entryAnswer bytes ends (last .lowest) (length key) (length value) ≡ Entry k v)
           × (nextOf bytes ends bound upper c (length key) (length value) .cursor .places ≡ last .stepped)
       unfolding nextOf
       fine = fine-by (nextCheck (length bytes) ends (c .places)) last e

@@ -13,7 +13,7 @@ use Rattle.run.specs.declared.bound.Bound.{Bound}
 use Rattle.run.specs.declared.record.Record.{Record}
 use Rattle.cursor.specs.Checks.{goodRuns}
 use Rattle.cursor.specs.Merged.{Pair, Hands, end, entry}
-use Rattle.cursor.specs.Next.{answerBy, answerTo, placesBy, putBy, movedBy, nextBy, nextOf, nextKey, nextValue}
+use Rattle.cursor.specs.Next.{answerBy, entryAnswer, placesBy, putBy, movedBy, nextBy, nextOf, nextKey, nextValue}
 use Rattle.cursor.specs.Pass.{lowestKey, lowestValue}
 use Rattle.cursor.specs.Settle.{settled}
 use Rattle.cursor.specs.declared.answers.Moved.{Moved}
@@ -42,7 +42,7 @@ module _ (bytes ends : List ℕ) (bound : Bound) (upper : List ℕ) (good : good
     last = settled bytes ends bound upper (c .places)
 
     moved : nextOf bytes ends bound upper c (length key) (length value)
-        ≡ movedBy (answerTo bytes ends (settled bytes ends bound upper (c .places) .lowest) (length key) (length value)) (settled bytes ends bound upper (c .places))
+        ≡ movedBy (entryAnswer bytes ends (settled bytes ends bound upper (c .places) .lowest) (length key) (length value)) (settled bytes ends bound upper (c .places))
     unfolding nextOf nextBy
     moved = rw (good-check ends (c .places) g (length bytes) good)
 
@@ -54,7 +54,7 @@ module _ (bytes ends : List ℕ) (bound : Bound) (upper : List ℕ) (good : good
     -- an entry
     module _ (j : ℕ) (x : Record) (e : last .lowest ≡ Found j x) (f : Fits bytes ends j x)
         (keyRoom : maxKeySize ≤ length key) (valueRoom : maxValueSize ≤ length value) where
-      entry-by : answerTo bytes ends (last .lowest) (length key) (length value)
+      entry-by : entryAnswer bytes ends (last .lowest) (length key) (length value)
           ≡ Entry (length (pairOf bytes ends j x .key)) (length (pairOf bytes ends j x .value))
       unfolding answerBy lowestKey lowestValue
       entry-by = rw e (sym (fitted-whole _ _ _ _ (omega (arith, f .key)) (omega (arith, f .value))))

@@ -23,9 +23,9 @@ pub mod PassClaims
 pub mod PassLaws
 pub mod PassRule
 pub mod PlaceLaws
+pub mod ReferenceCasesHold
 pub mod RunLaws
 pub mod SettleLaws
 pub mod ShowLaws
-pub mod StarredClaims
 pub mod UnionLaws
 pub mod WorkedMerge

@@ -12,7 +12,7 @@ use Rattle.types.specs.declared.refusal.Refusal.the-variants.{KeyBufferTooSmall
 use Rattle.slices.specs.Patch.{over}
 use Rattle.run.specs.Records.{keyIn, valueIn}
 use Rattle.run.specs.declared.record.Record.{Record}
-use Rattle.cursor.specs.Next.{fitted, answerBy, answerTo, placesBy, putBy}
+use Rattle.cursor.specs.Next.{fitted, answerBy, entryAnswer, placesBy, putBy}
 use Rattle.cursor.specs.Pass.{lowestKey, lowestValue}
 use Rattle.cursor.specs.Runs.{runOf}
 use Rattle.cursor.specs.declared.answers.NextAnswer.{NextAnswer}
@@ -79,7 +79,7 @@ module _ (bytes ends : List ℕ) (l : Lowest) (key value : List ℕ) where
   -- the answer to what a settled pass found, and what the two buffers then are
   abbrev Delivered : NextAnswer → List ℕ → List ℕ → Type 0
   Delivered a x y =
-      (a ≡ answerTo bytes ends l (length key) (length value))
+      (a ≡ entryAnswer bytes ends l (length key) (length value))
       × ((x ≡ putBy a (lowestKey bytes ends l) key) × (y ≡ putBy a (lowestValue bytes ends l) value))
 
   pub delivered-none : l ≡ low.None → Delivered End key value

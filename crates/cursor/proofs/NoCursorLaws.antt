@@ -8,13 +8,13 @@ use lib.ListN.{length}
 use Rattle.types.specs.Build.{fileCount}
 use Rattle.types.specs.declared.refusal.Refusal.{Refusal}
 use Rattle.types.proofs.TestLaws.{eq-or-ne}
-use Rattle.run.specs.Search.{soughtIn}
+use Rattle.run.specs.Search.{searchIn}
 use Rattle.run.specs.declared.bound.Bound.{Bound}
 use Rattle.run.specs.declared.search.Sought.{Sought}
 use Rattle.run.specs.declared.search.Sought.the-variants as sought
 use Rattle.cursor.specs.Checks.{newCheck, nextCheck}
-use Rattle.cursor.specs.New.{placed, newFrom, newBy, newOf}
-use Rattle.cursor.specs.Next.{answerTo, answerBy, putBy, movedBy, nextBy, nextOf, nextKey, nextValue}
+use Rattle.cursor.specs.New.{afterSearch, newFrom, newBy, newOf}
+use Rattle.cursor.specs.Next.{entryAnswer, answerBy, putBy, movedBy, nextBy, nextOf, nextKey, nextValue}
 use Rattle.cursor.specs.Pass.{passOf}
 use Rattle.cursor.specs.Places.{gone, placeOf, allGone}
 use Rattle.cursor.specs.Runs.{runOf}
@@ -41,8 +41,8 @@ module _ (bytes ends : List ℕ) (bound : Bound) (lower : List ℕ) (why : Refus
   abbrev Empty : NewCursor → Type 0
   Empty n = n .answer ≡ outcome.Refused why → n .cursor ≡ record { places = allGone }
 
-  empty-by : (s : Sought) (i : ℕ) (places : List RunPlace) (later : List RunPlace → NewCursor) → ((q : List RunPlace) → Empty (later q)) → Empty (placed s i places later)
-  unfolding placed
+  empty-by : (s : Sought) (i : ℕ) (places : List RunPlace) (later : List RunPlace → NewCursor) → ((q : List RunPlace) → Empty (later q)) → Empty (afterSearch s i places later)
+  unfolding afterSearch
   empty-by sought.Gone i places later on e = on _ e
   empty-by (sought.At at) i places later on e = on _ e
   empty-by (sought.Refused x) i places later on e = refl
@@ -51,7 +51,7 @@ module _ (bytes ends : List ℕ) (bound : Bound) (lower : List ℕ) (why : Refus
   unfolding newFrom
   empty-from zero i places e = let z : _≡_ {A = ℕ} 0 1 = cc in absurd (omega arith)
   empty-from (suc count) i places e =
-      empty-by (soughtIn (runOf bytes ends i) bound lower) i places (λ p. newFrom bytes ends bound lower count (suc i) p)
+      empty-by (searchIn (runOf bytes ends i) bound lower) i places (λ p. newFrom bytes ends bound lower count (suc i) p)
       (λ q. empty-from count (suc i) q) e
 
   empty-check : (v : Verdict) → Empty (newBy v bytes ends bound lower)
@@ -99,7 +99,7 @@ module _ (bytes ends : List ℕ) (bound : Bound) (upper : List ℕ) where
   module _ (found buffer : List ℕ) (keyRoom valueRoom : ℕ) where
     still-by : (v : Verdict) (p : Pass) (c : Cursor) → p .lowest ≡ None → putBy (nextBy v bytes ends p keyRoom valueRoom c .answer) found buffer ≡ buffer
     unfolding nextBy movedBy answerBy putBy
-    still-by check.Fine p c n = ap (λ (l : Lowest). putBy (answerTo bytes ends l keyRoom valueRoom) found buffer) n
+    still-by check.Fine p c n = ap (λ (l : Lowest). putBy (entryAnswer bytes ends l keyRoom valueRoom) found buffer) n
     still-by (check.Refused why) p c n = refl
 
   pub none-handed : (key value : List ℕ)

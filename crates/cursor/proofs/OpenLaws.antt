@@ -16,7 +16,7 @@ use Rattle.run.specs.declared.search.Sought.the-variants as sought
 use Rattle.slices.proofs.PartLaws.{part-fits}
 use Rattle.cursor.specs.Checks.{goodRuns, newCheck}
 use Rattle.cursor.specs.Merged.{orElse, said, between}
-use Rattle.cursor.specs.New.{placed, newFrom, newBy, newOf}
+use Rattle.cursor.specs.New.{afterSearch, newFrom, newBy, newOf}
 use Rattle.cursor.specs.Places.{gone, atPlace, placeOf, allGone}
 use Rattle.cursor.specs.Runs.{startOf, endOf, runOf}
 use Rattle.cursor.specs.Union.{kept}
@@ -120,8 +120,8 @@ module _ (low : Bound) (lower : List ℕ) (high : Bound) (upper : List ℕ) wher
           }
 
       opened-by : (later : List RunPlace → NewCursor) → ((q : List RunPlace) → Opened (suc i) q → Made (later q))
-          → (s : Sought) → Starts (runOf bytes ends i) (kept (reaches low lower) (items i)) s → Made (placed s i places later)
-      unfolding placed
+          → (s : Sought) → Starts (runOf bytes ends i) (kept (reaches low lower) (items i)) s → Made (afterSearch s i places later)
+      unfolding afterSearch
       opened-by later on sought.Gone st = on places (opened-gone st)
       opened-by later on (sought.At at) st = on (set places i (atPlace at)) (opened-at at (st .0) (st .1))
       opened-by later on (sought.Refused why) st = absurd st

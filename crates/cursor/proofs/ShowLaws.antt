@@ -11,7 +11,7 @@ use Rattle.run.specs.Bounds.{isPast}
 use Rattle.run.specs.Items.{Item, itemIn, Reads, end, more, Below, Rising}
 use Rattle.keys.specs.Keys.{compareKeys}
 use Rattle.run.specs.Records.{headAt, keyIn}
-use Rattle.run.specs.Search.{soughtBy, soughtHead, soughtFrom, soughtIn}
+use Rattle.run.specs.Search.{soughtBy, soughtHead, soughtFrom, searchIn}
 use Rattle.run.specs.declared.bound.Bound.{Bound}
 use Rattle.run.specs.declared.bound.Bound.the-variants.{Unbounded, Included, Excluded}
 use Rattle.keys.specs.declared.order.Ordering.{Ordering}
@@ -157,8 +157,8 @@ module _ (run : List ℕ) (lower : List ℕ) where
       (starts-from bound n (r .next) items s (h .1) heads (omega arith)) _ refl)
 
   -- a run of rising keys starts at the first item that the bound takes
-  pub starts : (bound : Bound) (items : List Item) → Reads run 0 items → Rising items → Starts run (kept (reaches bound lower) items) (soughtIn run bound lower)
-  unfolding soughtIn
+  pub starts : (bound : Bound) (items : List Item) → Reads run 0 items → Rising items → Starts run (kept (reaches bound lower) items) (searchIn run bound lower)
+  unfolding searchIn
   starts Unbounded items s h = (omega arith, rw (kept-unbounded lower items) s)
   starts Included items s h = starts-from Included (λ e. let y : _≡_ {A = ℕ} 0 1 = cc in omega arith) 0 items s h (suc (length run)) (omega arith)
   starts Excluded items s h = starts-from Excluded (λ e. let y : _≡_ {A = ℕ} 0 1 = cc in omega arith) 0 items s h (suc (length run)) (omega arith)

@@ -18,15 +18,15 @@ use Rattle.slices.specs.Parts.{partTo}
 use Rattle.slices.specs.Patch.{over}
 use Rattle.run.specs.Records.{bodyAt, headBy, headAt}
 use Rattle.run.specs.Records as records
-use Rattle.run.specs.Search.{soughtBy, soughtHead, soughtFrom, soughtIn}
+use Rattle.run.specs.Search.{soughtBy, soughtHead, soughtFrom, searchIn}
 use Rattle.cursor.specs.Checks.{risingEnds, goodRuns, goodPlace, goodFrom, goodPlaces, newCheck, nextCheck}
 use Rattle.cursor.specs.Merged.{between, Pair, Hands, Merged}
-use Rattle.cursor.specs.New.{placed, newFrom, newBy, newOf}
+use Rattle.cursor.specs.New.{afterSearch, newFrom, newBy, newOf}
 use Rattle.cursor.specs.Next.{fitted, answerBy, placesBy, putBy, movedBy, nextBy, nextOf, nextKey, nextValue}
 use Rattle.cursor.specs.Pass.{againstLowest, lookBy, lookHead, lookAt, lowestKey, lowestValue, shows, change, passFrom, passOf}
 use Rattle.cursor.specs.Runs.{startOf, runOf}
 use Rattle.cursor.specs.Settle.{isHidden, leftAt, sumTo, left, settleFrom, settled}
-use Rattle.cursor.specs.Starred.{liveB, liveC, bothRuns, endsFrom}
+use Rattle.cursor.specs.ReferenceCases.{liveB, liveC, bothRuns, endsFrom}
 use Rattle.cursor.specs.WorkedMerge.{workedBytes, workedEnds, workedItems, keyBuffer, valueBuffer, workedPairs}
 use Rattle.cursor.proofs.MergeClaims.{merge-hands, merge-exact}
 
@@ -38,8 +38,8 @@ good = refl
 
 reads : (i : ℕ) → i < length workedEnds → Reads (runOf workedBytes workedEnds i) 0 (workedItems i)
 unfolding word partTo bodyAt headBy headAt startOf liveB liveC flatten endsFrom bothRuns workedBytes workedEnds workedItems
-reads zero b = Reads.more (records.placed false 6 1 1) refl (Reads.more (records.placed false 14 1 1) refl (Reads.end refl))
-reads (suc zero) b = Reads.more (records.placed true 6 1 0) refl (Reads.more (records.placed false 13 1 1) refl (Reads.end refl))
+reads zero b = Reads.more (records.recordWith false 6 1 1) refl (Reads.more (records.recordWith false 14 1 1) refl (Reads.end refl))
+reads (suc zero) b = Reads.more (records.recordWith true 6 1 0) refl (Reads.more (records.recordWith false 13 1 1) refl (Reads.end refl))
 reads (suc (suc i)) b = let few : suc (suc i) < 2 = b in absurd (omega arith)
 
 rising : (i : ℕ) → i < length workedEnds → Rising (workedItems i)
@@ -61,8 +61,8 @@ worked-hands = merge-hands workedBytes workedEnds good workedItems reads rising 
 
 -- a, which the newer run deletes, is left out
 handed : Hands workedBytes workedEnds Unbounded [] (newOf workedBytes workedEnds Unbounded [] .cursor) keyBuffer valueBuffer workedPairs
-unfolding word pastBy compareKeys partTo bodyAt headBy headAt soughtBy soughtHead soughtFrom soughtIn risingEnds goodRuns goodPlace goodFrom
-    goodPlaces newCheck nextCheck placed newFrom newBy newOf fitted answerBy placesBy over putBy movedBy nextBy nextOf nextKey nextValue
+unfolding word pastBy compareKeys partTo bodyAt headBy headAt soughtBy soughtHead soughtFrom searchIn risingEnds goodRuns goodPlace goodFrom
+    goodPlaces newCheck nextCheck afterSearch newFrom newBy newOf fitted answerBy placesBy over putBy movedBy nextBy nextOf nextKey nextValue
     againstLowest lookBy lookHead lookAt lowestKey lowestValue shows change passFrom passOf startOf isHidden leftAt sumTo left settleFrom settled
     liveB liveC flatten endsFrom bothRuns workedBytes workedEnds keyBuffer valueBuffer workedPairs
 handed = Hands.entry 1 1 refl (Hands.entry 1 1 refl (Hands.end refl))

@@ -10,7 +10,7 @@ use Rattle.types.specs.Answers.{answered}
 use Rattle.cursor.specs.Answers.{nextTold}
 use Rattle.cursor.specs.New.{newOf}
 use Rattle.cursor.specs.Next.{nextOf, nextKey}
-use Rattle.cursor.specs.Starred.{liveB, liveC, Case, call}
+use Rattle.cursor.specs.ReferenceCases.{liveB, liveC, Case, call}
 use Rattle.cursor.specs.declared.answers.NextAnswer.{NextAnswer}
 use Rattle.cursor.specs.declared.answers.NextAnswer.the-variants.{End, Entry, Refused}
 use Rattle.cursor.specs.declared.place.Cursor.{Cursor}

@@ -6,8 +6,8 @@ pub mod New
 pub mod Next
 pub mod Pass
 pub mod Places
+pub mod ReferenceCases
 pub mod Runs
 pub mod Settle
-pub mod Starred
 pub mod Union
 pub mod WorkedMerge

@@ -4,7 +4,7 @@ use mathlib.Core.List.{List}
 use Prim.Native.Nat.{ℕ, zero, suc}
 use lib.ListN.{length, set}
 use Rattle.types.specs.declared.refusal.Refusal.{Refusal}
-use Rattle.run.specs.Search.{soughtIn}
+use Rattle.run.specs.Search.{searchIn}
 use Rattle.run.specs.declared.bound.Bound.{Bound}
 use Rattle.run.specs.declared.search.Sought.{Sought}
 use Rattle.run.specs.declared.search.Sought.the-variants as sought
@@ -21,16 +21,16 @@ abbrev pub refusedNew : Refusal → NewCursor
 refusedNew why = record { cursor = record { places = allGone }; answer = Refused why }
 
 -- what run i's search changes, with the searches of the later runs at hand
-unfoldable pub placed : Sought → ℕ → List RunPlace → (List RunPlace → NewCursor) → NewCursor
-placed sought.Gone i places later = later places
-placed (sought.At at) i places later = later (set places i (atPlace at))
-placed (sought.Refused why) i places later = refusedNew why
+unfoldable pub afterSearch : Sought → ℕ → List RunPlace → (List RunPlace → NewCursor) → NewCursor
+afterSearch sought.Gone i places later = later places
+afterSearch (sought.At at) i places later = later (set places i (atPlace at))
+afterSearch (sought.Refused why) i places later = refusedNew why
 
 -- `count` runs from run i on, in list order
 unfoldable pub newFrom : List ℕ → List ℕ → Bound → List ℕ → ℕ → ℕ → List RunPlace → NewCursor
 newFrom bytes ends bound lower zero i places = record { cursor = record { places = places }; answer = Done }
 newFrom bytes ends bound lower (suc count) i places =
-    placed (soughtIn (runOf bytes ends i) bound lower) i places (λ p. newFrom bytes ends bound lower count (suc i) p)
+    afterSearch (searchIn (runOf bytes ends i) bound lower) i places (λ p. newFrom bytes ends bound lower count (suc i) p)
 
 unfoldable pub newBy : Verdict → List ℕ → List ℕ → Bound → List ℕ → NewCursor
 newBy check.Fine bytes ends bound lower = newFrom bytes ends bound lower (length ends) 0 allGone

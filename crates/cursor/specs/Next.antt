@@ -35,8 +35,8 @@ answerBy low.None keyRoom valueRoom keyLen valueLen = End
 answerBy (low.Found run r) keyRoom valueRoom keyLen valueLen = fitted keyRoom valueRoom keyLen valueLen
 answerBy (low.Refused why) keyRoom valueRoom keyLen valueLen = Refused why
 
-abbrev pub answerTo : List ℕ → List ℕ → Lowest → ℕ → ℕ → NextAnswer
-answerTo bytes ends lowest keyRoom valueRoom =
+abbrev pub entryAnswer : List ℕ → List ℕ → Lowest → ℕ → ℕ → NextAnswer
+entryAnswer bytes ends lowest keyRoom valueRoom =
     answerBy lowest keyRoom valueRoom (length (lowestKey bytes ends lowest)) (length (lowestValue bytes ends lowest))
 
 -- only an entry steps its holders on
@@ -57,7 +57,7 @@ unfoldable pub movedBy : NextAnswer → Pass → Moved
 movedBy answer p = record { cursor = record { places = placesBy answer p }; answer = answer }
 
 unfoldable pub nextBy : Verdict → List ℕ → List ℕ → Pass → ℕ → ℕ → Cursor → Moved
-nextBy check.Fine bytes ends p keyRoom valueRoom c = movedBy (answerTo bytes ends (p .lowest) keyRoom valueRoom) p
+nextBy check.Fine bytes ends p keyRoom valueRoom c = movedBy (entryAnswer bytes ends (p .lowest) keyRoom valueRoom) p
 nextBy (check.Refused why) bytes ends p keyRoom valueRoom c = record { cursor = c; answer = Refused why }
 
 -- the answer and the cursor, for buffers of keyRoom and valueRoom bytes

@@ -7,7 +7,7 @@ use Rattle.types.specs.Build.{maxKeySize, maxValueSize}
 use Rattle.run.specs.Items.{Item}
 use Rattle.run.specs.RecordTable.{liveA, deletedA}
 use Rattle.cursor.specs.Merged.{Pair}
-use Rattle.cursor.specs.Starred.{bothRuns, endsFrom}
+use Rattle.cursor.specs.ReferenceCases.{bothRuns, endsFrom}
 
 -- the buffer that holds both runs, and where they end in it
 unfoldable pub workedBytes : List ℕ

@@ -2,7 +2,7 @@
 ghost use mathlib.Core.Path.{_≡_};
 ghost use lib.ListN.{length};
 ghost use Rattle.run.specs.Records.{keyIn, valueIn};
-ghost use Rattle.cursor.specs.Next.{fitted, answerTo, putBy};
+ghost use Rattle.cursor.specs.Next.{fitted, entryAnswer, putBy};
 ghost use Rattle.cursor.specs.Pass.{lowestKey, lowestValue};
 use crate::answers::NextAnswer;
 use crate::look::Lowest;
@@ -40,7 +40,7 @@ pub(crate) fn deliver(
     key: &mut [u8],
     value: &mut [u8],
 ) -> NextAnswer
-    ensures answers { λ r. ⌜ r ≡ answerTo (now (runs .entry)) (now (ends .entry)) lowest (length (now (key .entry))) (length (now (value .entry))) ⌝ }
+    ensures answers { λ r. ⌜ r ≡ entryAnswer (now (runs .entry)) (now (ends .entry)) lowest (length (now (key .entry))) (length (now (value .entry))) ⌝ }
     ensures bytes { λ r. ⌜ (now (key .exit) ≡ putBy r (lowestKey (now (runs .entry)) (now (ends .entry)) lowest) (now (key .entry)))
         × (now (value .exit) ≡ putBy r (lowestValue (now (runs .entry)) (now (ends .entry)) lowest) (now (value .entry))) ⌝ }
 {

@@ -1,6 +1,6 @@
 // The merge over all runs: a cursor from a lower bound, and the next entry under an upper bound.
 pub mod answers;
-pub mod check;
+pub mod checks;
 pub mod deliver;
 pub mod look;
 pub mod merge;

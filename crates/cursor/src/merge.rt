@@ -6,8 +6,8 @@ ghost use Rattle.cursor.specs.Next.{placesBy, nextOf, nextKey, nextValue
 use crate::answers::Moved;
 use crate::answers::NewCursor;
 use crate::answers::NextAnswer;
-use crate::check::new_check;
-use crate::check::next_check;
+use crate::checks::check_new;
+use crate::checks::check_next;
 use crate::deliver::deliver;
 use crate::pass::Pass;
 use crate::pass::settle;
@@ -54,7 +54,7 @@ impl Cursor {
     pub fn new(runs: &[u8], ends: &[usize], bound: Bound, lower: &[u8]) -> NewCursor
         ensures answers { λ r. ⌜ r ≡ newOf (now (runs .entry)) (now (ends .entry)) bound (now (lower .entry)) ⌝ }
     {
-        let check = new_check(runs.len(), ends);
+        let check = check_new(runs.len(), ends);
         if let Verdict::Refused(why) = check {
             return refused(why);
         }
@@ -97,7 +97,7 @@ impl Cursor {
             × (now (value .exit) ≡ nextValue (now (runs .entry)) (now (ends .entry)) bound (now (upper .entry)) self (now (key .entry)) (now (value .entry))) ⌝ }
     {
         let places = self.places;
-        let check = next_check(runs.len(), ends, places);
+        let check = check_next(runs.len(), ends, places);
         if let Verdict::Refused(why) = check {
             return Moved {
                 cursor: self,

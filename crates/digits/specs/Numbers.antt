@@ -13,18 +13,18 @@ use Rattle.digits.specs.declared.number.Word32.{Word32}
 use Rattle.digits.specs.declared.number.Word32.the-variants.{Word, NoWord}
 
 -- n with one digit more: none where the digit is not one of the base, or where the number passes the most
-abbrev pub joined : ℕ → ℕ → ℕ → ℕ → Number
-joined base most n d = cond (ltb d base && leb (n * base + d) most) (Value (n * base + d)) NoNumber
+abbrev pub withDigit : ℕ → ℕ → ℕ → ℕ → Number
+withDigit base most n d = cond (ltb d base && leb (n * base + d) most) (Value (n * base + d)) NoNumber
 
 -- a number read on by the digits of a word
-unfoldable pub readOn : ℕ → ℕ → Number → List ℕ → Number
-readOn base most n [] = n
-readOn base most NoNumber (d ∷ word) = NoNumber
-readOn base most (Value n) (d ∷ word) = readOn base most (joined base most n (digitIn d)) word
+unfoldable pub readDigits : ℕ → ℕ → Number → List ℕ → Number
+readDigits base most n [] = n
+readDigits base most NoNumber (d ∷ word) = NoNumber
+readDigits base most (Value n) (d ∷ word) = readDigits base most (withDigit base most n (digitIn d)) word
 
 -- a word of at least one digit as a number
 abbrev pub numberIn : ℕ → ℕ → List ℕ → Number
-numberIn base most word = cond (eqb (length word) 0) NoNumber (readOn base most (Value 0) word)
+numberIn base most word = cond (eqb (length word) 0) NoNumber (readDigits base most (Value 0) word)
 
 -- a decimal number of up to 64 bits
 abbrev pub decimalIn : List ℕ → Number

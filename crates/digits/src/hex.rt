@@ -5,7 +5,7 @@ ghost use Prim.Native.Nat.{_≤_, _*_, _/_, _%_, min};
 ghost use lib.ListN.{length, take};
 ghost use Rattle.slices.specs.Patch.{over};
 ghost use Rattle.digits.specs.Hex.{digitIn, digitOf, allDigits, byteIn, bytesIn, decodedOf, bufferAfter, digitsOf, hexOf};
-use types::num::least;
+use types::num::min;
 
 // What a word in hex comes to.
 pub enum Decoded {
@@ -122,7 +122,7 @@ pub fn encode(bytes: &[u8], out: &mut [u8]) -> usize
     ensures answers { λ r. ⌜ r ≡ 2 * min (length (now (bytes .entry))) (length (now (out .entry)) / 2) ⌝ }
     ensures bytes { λ _. ⌜ now (out .exit) ≡ over (hexOf (take (length (now (out .entry)) / 2) (now (bytes .entry)))) (now (out .entry)) ⌝ }
 {
-    let n = least(bytes.len(), out.len() / 2);
+    let n = min(bytes.len(), out.len() / 2);
     for i in 0..n {
         out[2 * i] = high_digit(bytes[i]);
         out[2 * i + 1] = low_digit(bytes[i]);

@@ -1,8 +1,8 @@
 // Numbers as words: decimal ones, and eight digits in hex.
 ghost use mathlib.Core.Path.{_≡_};
 ghost use Prim.Native.Nat.{_≤_, _<_};
-ghost use Rattle.digits.specs.Numbers.{joined, numberIn, decimalIn, word32In, apartOf};
-use super::hex::digit_in;
+ghost use Rattle.digits.specs.Numbers.{withDigit, numberIn, decimalIn, word32In, apartOf};
+use crate::hex::digit_in;
 
 const MOST_64: usize = 0xFFFF_FFFF_FFFF_FFFF;
 
@@ -22,10 +22,10 @@ pub enum Word32 {
 }
 
 // n with one more digit, if that is a digit of the base and the number stays within the limit.
-fn joined(base: usize, most: usize, n: usize, d: u8) -> Number
+fn with_digit(base: usize, most: usize, n: usize, d: u8) -> Number
     requires { ⌜ 0 < base ⌝ }
     requires { ⌜ base ≤ most ⌝ }
-    ensures answers { λ r. ⌜ r ≡ joined base most n d ⌝ }
+    ensures answers { λ r. ⌜ r ≡ withDigit base most n d ⌝ }
 {
     let digit = d as usize;
     if base <= digit {
@@ -49,7 +49,7 @@ fn number_in(base: usize, most: usize, word: &[u8]) -> Number
     let mut n = 0;
     let mut i = 0;
     while i < word.len() {
-        let Number::Value(next) = joined(base, most, n, digit_in(word[i])) else {
+        let Number::Value(next) = with_digit(base, most, n, digit_in(word[i])) else {
             return Number::NoNumber;
         };
         n = next;

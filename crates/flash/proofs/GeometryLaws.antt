@@ -8,10 +8,10 @@ use lib.ListN.{length, length-take, length-drop}
 use borrow.Author.Tests.{eqb-true, leb-true, eq-eqb, le-leb}
 use Rattle.types.specs.Build.{pageSize}
 use Rattle.types.proofs.TestLaws.{both-true}
-use Rattle.flash.specs.Geometry.{flashFine, pageCount, pageStart, pageFrom}
+use Rattle.flash.specs.Geometry.{flashFine, wholePages, pageStart, pageFrom}
 
 -- a fine flash is 1 to 256 whole pages, and the other way round
-pub fine-whole : (n : ℕ) → flashFine n ≡ true → (n ≡ pageCount n * pageSize) × ((1 ≤ pageCount n) × (pageCount n ≤ 256))
+pub fine-whole : (n : ℕ) → flashFine n ≡ true → (n ≡ wholePages n * pageSize) × ((1 ≤ wholePages n) × (wholePages n ≤ 256))
 fine-whole n e =
     let u = both-true _ _ e in
     let l = both-true _ _ (u .0) in
@@ -25,7 +25,7 @@ whole-fine k low high =
     rw (eq-eqb (k * 4096 % 4096) 0 (omega arith), le-leb 4096 (k * 4096) (omega arith), le-leb (k * 4096) 1048576 (omega arith))
 
 -- a page that the flash has lies in it whole
-pub page-inside : (n p : ℕ) → p < pageCount n → pageStart p + pageSize ≤ n
+pub page-inside : (n p : ℕ) → p < wholePages n → pageStart p + pageSize ≤ n
 page-inside n p h = omega arith
 
 pub length-page : (base : ℕ) (xs : List ℕ) → base + pageSize ≤ length xs → length (pageFrom base xs) ≡ pageSize

@@ -14,16 +14,16 @@ abbrev pub flashFine : ℕ → Bool
 flashFine n = eqb (n % pageSize) 0 && leb pageSize n && leb n (maxPageCount * pageSize)
 
 -- a flash of n bytes is fine, or it is 5
-abbrev pub flashVerdict : ℕ → Verdict
-flashVerdict n = cond (flashFine n) Fine (Refused BadFlash)
+abbrev pub flashCheck : ℕ → Verdict
+flashCheck n = cond (flashFine n) Fine (Refused BadFlash)
 
 -- how many whole pages n bytes are
-abbrev pub pageCount : ℕ → ℕ
-pageCount n = n / pageSize
+abbrev pub wholePages : ℕ → ℕ
+wholePages n = n / pageSize
 
 -- whether a flash of n bytes has page p
 abbrev pub hasPage : ℕ → ℕ → Bool
-hasPage n p = ltb p (pageCount n)
+hasPage n p = ltb p (wholePages n)
 
 -- where page p starts
 abbrev pub pageStart : ℕ → ℕ

@@ -6,11 +6,11 @@ use types::page_id::PageID;
 use types::refusal::Refusal;
 use types::refusal::Verdict;
 ghost use mathlib.Core.Path.{_≡_};
-ghost use Rattle.flash.specs.Geometry.{flashVerdict, pageCount, pageStart, hasPage, pageOf};
+ghost use Rattle.flash.specs.Geometry.{flashCheck, wholePages, pageStart, hasPage, pageOf};
 
 // Fine, or 5 where a flash of this many bytes is not 1 to 256 whole pages.
 pub fn check_flash(bytes: usize) -> Verdict
-    ensures answers { λ r. ⌜ r ≡ flashVerdict bytes ⌝ }
+    ensures answers { λ r. ⌜ r ≡ flashCheck bytes ⌝ }
 {
     if (bytes % PAGE_SIZE == 0) & (PAGE_SIZE <= bytes) & (bytes <= MAX_PAGE_COUNT * PAGE_SIZE) {
         Verdict::Fine
@@ -19,8 +19,8 @@ pub fn check_flash(bytes: usize) -> Verdict
     }
 }
 
-pub fn page_count(bytes: usize) -> usize
-    ensures answers { λ r. ⌜ r ≡ pageCount bytes ⌝ }
+pub fn whole_pages(bytes: usize) -> usize
+    ensures answers { λ r. ⌜ r ≡ wholePages bytes ⌝ }
 {
     bytes / PAGE_SIZE
 }
@@ -28,7 +28,7 @@ pub fn page_count(bytes: usize) -> usize
 pub fn has_page(bytes: usize, page: PageID) -> bool
     ensures answers { λ r. ⌜ r ≡ hasPage bytes (page .0) ⌝ }
 {
-    page.index() < page_count(bytes)
+    page.index() < whole_pages(bytes)
 }
 
 pub fn page_start(page: PageID) -> usize

@@ -7,8 +7,8 @@ use crate::geometry::has_page;
 use crate::geometry::page_start;
 use slices::part;
 use types::config::PAGE_SIZE;
-use types::num::least;
-use types::num::less;
+use types::num::min;
+use types::num::minus;
 use types::page_id::PageID;
 ghost use mathlib.Core.Path.{_≡_};
 ghost use mathlib.Core.Bool.{_&&_};
@@ -29,9 +29,9 @@ pub struct Spent {
 pub(crate) fn store(flash: &mut [u8], page: PageID, at: usize, bytes: &[u8])
     ensures bytes { λ _. ⌜ now (flash .exit) ≡ made (pageStart (page .0)) (Op.store at (now (bytes .entry))) (now (flash .entry)) ⌝ }
 {
-    let room = less(PAGE_SIZE, at);
-    let n = least(bytes.len(), room);
-    let from = least(page_start(page) + PAGE_SIZE - room, flash.len());
+    let room = minus(PAGE_SIZE, at);
+    let n = min(bytes.len(), room);
+    let from = min(page_start(page) + PAGE_SIZE - room, flash.len());
     part::put(&mut flash[from..], &bytes[..n]);
 }
 
@@ -39,8 +39,8 @@ pub(crate) fn store(flash: &mut [u8], page: PageID, at: usize, bytes: &[u8])
 pub(crate) fn erase(flash: &mut [u8], page: PageID, value: u8)
     ensures bytes { λ _. ⌜ now (flash .exit) ≡ made (pageStart (page .0)) (Op.erase value) (now (flash .entry)) ⌝ }
 {
-    let start = least(page_start(page), flash.len());
-    let end = least(start + PAGE_SIZE, flash.len());
+    let start = min(page_start(page), flash.len());
+    let end = min(start + PAGE_SIZE, flash.len());
     part::wipe(&mut flash[start..end], value);
 }
 
@@ -51,7 +51,7 @@ fn spend(due: bool, left: usize) -> Spent
     if due {
         Spent {
             ok: left != 0,
-            left: less(left, 1),
+            left: minus(left, 1),
         }
     } else {
         Spent { ok: true, left }
@@ -62,7 +62,7 @@ fn spend(due: bool, left: usize) -> Spent
 fn holds_store(flash: usize, page: PageID, at: usize, bytes: usize) -> bool
     ensures answers { λ r. ⌜ r ≡ (hasPage flash (page .0) && leb (at + bytes) pageSize) ⌝ }
 {
-    has_page(flash, page) & (at <= PAGE_SIZE) & (bytes <= less(PAGE_SIZE, at))
+    has_page(flash, page) & (at <= PAGE_SIZE) & (bytes <= minus(PAGE_SIZE, at))
 }
 
 // One store, if it is due and one is left.

@@ -4,8 +4,8 @@ use desk::say::wrong;
 use digits::hex::Decoded;
 use digits::hex::decode;
 use slices::part::part_of;
-use types::num::least;
-use types::num::less;
+use types::num::min;
+use types::num::minus;
 
 pub(crate) enum Key {
     Bytes(usize),
@@ -72,7 +72,7 @@ fn unescape(text: &[u8], out: &mut [u8]) -> Key {
             return Key::Bad;
         }
         n = put(out, n, byte);
-        i += least(used, less(text.len(), i));
+        i += min(used, minus(text.len(), i));
     }
     Key::Bytes(n)
 }

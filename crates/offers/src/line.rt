@@ -1,8 +1,8 @@
 // A line of the list. Bytes outside printable ASCII, and the backslash, are spelled, so no two entries have the same line. Where it is
 // asked for, UTF-8 is printed as it is.
 use slices::part::part_of;
-use types::num::less;
-use utf8::character::length_of;
+use types::num::minus;
+use utf8::character::character_length;
 
 const SPACE: u8 = 32;
 
@@ -46,7 +46,7 @@ fn plain_at(rest: &[u8], left: usize, utf8: bool) -> usize {
         return left;
     }
     if utf8 {
-        return length_of(rest);
+        return character_length(rest);
     }
     0
 }
@@ -65,7 +65,7 @@ pub(crate) fn put_all(out: &mut [u8], from: usize, bytes: &[u8], utf8: bool) -> 
     for i in 0..bytes.len() {
         let plain = plain_at(part_of(bytes, i, 4), left, utf8);
         at = put_byte(out, at, bytes[i], plain);
-        left = less(plain, 1);
+        left = minus(plain, 1);
     }
     at
 }

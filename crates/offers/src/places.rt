@@ -10,8 +10,8 @@ use run::search::Sought;
 use run::search::search;
 use slices::part::part_of;
 use types::config::FILE_COUNT;
-use types::num::least;
-use types::num::less;
+use types::num::min;
+use types::num::minus;
 
 // A run and a position in it. Past the last run it is no place.
 pub(crate) struct Spot {
@@ -36,7 +36,7 @@ fn end_of(ends: &[usize], i: usize) -> usize {
 // The ends of the first `files` runs.
 pub(crate) fn first_ends(ends: &[usize], files: usize) -> &[usize] {
     let start = 0;
-    let end = least(files, ends.len());
+    let end = min(files, ends.len());
     &ends[start..end]
 }
 
@@ -50,7 +50,7 @@ pub(crate) fn last_end(ends: &[usize]) -> usize {
 
 fn run_of<'a, 'b>(runs: &'a [u8], ends: &'b [usize], i: usize) -> &'a [u8] {
     let start = if i == 0 { 0 } else { end_of(ends, i - 1) };
-    part_of(runs, start, less(end_of(ends, i), start))
+    part_of(runs, start, minus(end_of(ends, i), start))
 }
 
 // Whether the record at a position is one that is refused.

@@ -18,8 +18,8 @@ abbrev pub headerFine : ℕ → Bool
 headerFine h = eqb (h % align) 0 && leb h maxHeaderSize
 
 -- h is fine, or it is 6
-abbrev pub headerVerdict : ℕ → Verdict
-headerVerdict h = cond (headerFine h) Fine (Refused BadHeader)
+abbrev pub headerCheck : ℕ → Verdict
+headerCheck h = cond (headerFine h) Fine (Refused BadHeader)
 
 -- the header of page p with the higher header's bytes
 unfoldable pub pageHeader : ℕ → ℕ → List ℕ → List ℕ

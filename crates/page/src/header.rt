@@ -9,11 +9,11 @@ use types::page_id::PageID;
 use types::refusal::Refusal;
 use types::refusal::Verdict;
 ghost use mathlib.Core.Path.{_≡_};
-ghost use Rattle.page.specs.Headers.{headerVerdict, headerOf, pageHeaderFine};
+ghost use Rattle.page.specs.Headers.{headerCheck, headerOf, pageHeaderFine};
 
 // Fine, or 6 where h is not a multiple of 4 from 0 to 64.
 pub fn check_header(h: usize) -> Verdict
-    ensures answers { λ r. ⌜ r ≡ headerVerdict h ⌝ }
+    ensures answers { λ r. ⌜ r ≡ headerCheck h ⌝ }
 {
     if (h % ALIGN == 0) & (h <= MAX_HEADER_SIZE) {
         Verdict::Fine

@@ -24,13 +24,13 @@ use types::config::MAX_HEADER_SIZE;
 use types::config::MAX_PAGE_COUNT;
 use types::config::PAGE_HEADER_SIZE;
 use types::config::PAGE_SIZE;
-use types::num::least;
+use types::num::min;
 use types::page_id::PageID;
 use types::refusal::Refusal;
 use types::refusal::Verdict;
 
 fn say_good(page: &[u8], h: usize, chunks: bool) -> bool {
-    let start = PAGE_HEADER_SIZE + least(h, MAX_HEADER_SIZE);
+    let start = PAGE_HEADER_SIZE + min(h, MAX_HEADER_SIZE);
     say_higher(page, h);
     let said = say_walk(page, walked(page, start));
     if said & chunks {
@@ -126,7 +126,7 @@ fn say_each(flash: &[u8], magic: u32, h: usize, chunks: bool, count: usize) -> b
 }
 
 fn say_pages(flash: &[u8], magic: u32, h: usize, chunks: bool) -> bool {
-    let count = least(flash.len() / PAGE_SIZE, MAX_PAGE_COUNT);
+    let count = min(flash.len() / PAGE_SIZE, MAX_PAGE_COUNT);
     let m = magics_of(flash, magic, count);
     if m.any & !m.mixed {
         return say_other(magic, m.first);

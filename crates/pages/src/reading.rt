@@ -8,7 +8,7 @@ use script::space::page_space;
 use slices::part::part_of;
 use types::answers::Outcome;
 use types::config::MAX_HEADER_SIZE;
-use types::num::least;
+use types::num::min;
 use types::page_id::PageID;
 use types::refusal::Refusal;
 
@@ -88,7 +88,7 @@ fn read_all(start: PageReader, flash: &[u8]) {
 pub(crate) fn hand_out(flash: &[u8], magic: u32, page: PageID, h: usize) {
     let mut space = [0; 72];
     let start = 0;
-    let end = least(h, MAX_HEADER_SIZE + 1);
+    let end = min(h, MAX_HEADER_SIZE + 1);
     let opening = PageReader::new().open(flash, magic, page, &mut space[start..end]);
     let answer = opening.answer;
     match answer {

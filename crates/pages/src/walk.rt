@@ -8,7 +8,7 @@ use page::walk::all_erased;
 use slices::part::part_of;
 use types::config::ERASE_VALUE;
 use types::config::PAGE_SIZE;
-use types::num::least;
+use types::num::min;
 
 // More steps than a page has chunks.
 pub(crate) const STEPS: usize = 512;
@@ -45,7 +45,7 @@ pub(crate) fn walked(page: &[u8], start: usize) -> Walk {
             }
             Step::Chunk { len, crc: _, next } => {
                 chunks += 1;
-                bytes += least(len, PAGE_SIZE);
+                bytes += min(len, PAGE_SIZE);
                 at = next;
             }
         }

@@ -12,9 +12,9 @@ use Rattle.types.specs.declared.refusal.Refusal.the-variants as row
 use Rattle.types.specs.declared.refusal.Verdict.{Verdict}
 use Rattle.types.specs.declared.refusal.Verdict.the-variants.{Fine, Refused}
 use Rattle.flash.specs.Geometry.{pageOf}
-use Rattle.reader.specs.Calls.{passageAfter, taken, read, bytesAfter, laidOver, readBytes, passageOf, skip}
-use Rattle.reader.specs.Calls.{endTestAfter, tested, isAtEof, openingAfter, opened, opening, openPage, rehydrating, rehydrateFrom}
-use Rattle.reader.specs.Checks.{openVerdict, readerVerdict}
+use Rattle.reader.specs.Calls.{passageAfter, readOf, read, bytesAfter, laidOver, readBytes, passageOf, skip}
+use Rattle.reader.specs.Calls.{endTestAfter, tested, isAtEof, openingAfter, openingOf, opening, openPage, rehydrating, rehydrateFrom}
+use Rattle.reader.specs.Checks.{openCheck, readerCheck}
 use Rattle.reader.specs.Moves.{ready, skipped}
 use Rattle.reader.specs.States.{restored}
 use Rattle.reader.specs.declared.answers.Count.the-variants as count
@@ -36,13 +36,13 @@ module _ (r : PageReader) (flash : List ℕ) (w : Refusal) where
       → (read r flash room′ ≡ record { answer = count.Refused w; reader = r })
       × ((readBytes r flash buffer ≡ buffer) × (isAtEof r flash ≡ record { answer = endTest.Refused w; reader = r }))
   unfolding read readBytes isAtEof
-  read-refused-so room e room′ buffer = by (readerVerdict (length flash) r) (ready (pageOf (r .page .0) flash) r) e
+  read-refused-so room e room′ buffer = by (readerCheck (length flash) r) (ready (pageOf (r .page .0) flash) r) e
     where
       page : List ℕ
       page = pageOf (r .page .0) flash
 
-      by : (v : Verdict) (a : Arrived) → passageAfter v r (taken page r room a) .answer ≡ count.Refused w
-          → (passageAfter v r (taken page r room′ a) ≡ record { answer = count.Refused w; reader = r })
+      by : (v : Verdict) (a : Arrived) → passageAfter v r (readOf page r room a) .answer ≡ count.Refused w
+          → (passageAfter v r (readOf page r room′ a) ≡ record { answer = count.Refused w; reader = r })
           × ((bytesAfter v buffer (laidOver page buffer a) ≡ buffer) × (endTestAfter v r (tested r a) ≡ record { answer = endTest.Refused w; reader = r }))
       by (Refused x) a e = let f : x ≡ w = cc in (rw f, (refl, rw f))
       by Fine (At s) e = let z : _≡_ {A = ℕ} 0 1 = cc in absurd (omega arith)
@@ -60,7 +60,7 @@ module _ (r : PageReader) (flash : List ℕ) (w : Refusal) where
 
   pub skip-kept : (n : ℕ) → skip r flash n .answer ≡ count.Refused w → skip r flash n .reader ≡ r
   unfolding skip
-  skip-kept n e = by (readerVerdict (length flash) r) (skipped (pageOf (r .page .0) flash) n r) e
+  skip-kept n e = by (readerCheck (length flash) r) (skipped (pageOf (r .page .0) flash) n r) e
     where
       by : (v : Verdict) (p : Passed) → passageAfter v r (passageOf r n p) .answer ≡ count.Refused w → passageAfter v r (passageOf r n p) .reader ≡ r
       by (Refused x) p e = refl
@@ -69,7 +69,7 @@ module _ (r : PageReader) (flash : List ℕ) (w : Refusal) where
 
   pub eof-kept : isAtEof r flash .answer ≡ endTest.Refused w → isAtEof r flash .reader ≡ r
   unfolding isAtEof
-  eof-kept e = by (readerVerdict (length flash) r) (ready (pageOf (r .page .0) flash) r) e
+  eof-kept e = by (readerCheck (length flash) r) (ready (pageOf (r .page .0) flash) r) e
     where
       ended : (t : Bool) → cond t endTest.AtEnd endTest.More ≡ endTest.Refused w → ⊥
       ended true e = let z : _≡_ {A = ℕ} 0 1 = cc in omega arith
@@ -80,7 +80,7 @@ module _ (r : PageReader) (flash : List ℕ) (w : Refusal) where
       by Fine (At s) e = absurd (ended (s .ended) e)
       by Fine Corrupted e = refl
 
-  opening-kept : (v : Verdict) (a : Arrived) → openingAfter v r (opened r a) .answer ≡ outcome.Refused w → openingAfter v r (opened r a) .reader ≡ r
+  opening-kept : (v : Verdict) (a : Arrived) → openingAfter v r (openingOf r a) .answer ≡ outcome.Refused w → openingAfter v r (openingOf r a) .reader ≡ r
   opening-kept (Refused x) a e = refl
   opening-kept Fine (At s) e = let z : _≡_ {A = ℕ} 0 1 = cc in absurd (omega arith)
   opening-kept Fine Corrupted e = refl
@@ -88,11 +88,11 @@ module _ (r : PageReader) (flash : List ℕ) (w : Refusal) where
   pub open-reader-kept : (magic : ℕ) (page : PageID) (h : ℕ) → openPage r flash magic page h .answer ≡ outcome.Refused w
       → openPage r flash magic page h .reader ≡ r
   unfolding openPage
-  open-reader-kept magic page h e = opening-kept (openVerdict (length flash) h page) (opening (pageOf (page .0) flash) magic page h) e
+  open-reader-kept magic page h e = opening-kept (openCheck (length flash) h page) (opening (pageOf (page .0) flash) magic page h) e
 
   pub rehydrate-kept : (d : DehydratedPageReader) → rehydrateFrom r flash d .answer ≡ outcome.Refused w → rehydrateFrom r flash d .reader ≡ r
   unfolding rehydrateFrom
-  rehydrate-kept d e = opening-kept (readerVerdict (length flash) (restored d)) (rehydrating (pageOf (d .page .0) flash) (restored d)) e
+  rehydrate-kept d e = opening-kept (readerCheck (length flash) (restored d)) (rehydrating (pageOf (d .page .0) flash) (restored d)) e
 
   -- ---- and the same call gives the same refusal
 

@@ -21,8 +21,8 @@ use Rattle.page.specs.declared.chunk.Step.{Step}
 use Rattle.page.specs.declared.chunk.Step.the-variants as step
 use Rattle.page.proofs.LaidLaws.{All, endOf, end-within, walk-laid}
 use Rattle.reader.specs.Finds.{Found, Joined, NotEmpty, joined, nothingMore, andThen, reads, readAll, foundWith, walkFinds}
-use Rattle.reader.specs.Calls.{opened, openPage}
-use Rattle.reader.specs.Checks.{openVerdict, readerVerdict}
+use Rattle.reader.specs.Calls.{openingOf, openPage}
+use Rattle.reader.specs.Checks.{openCheck, readerCheck}
 use Rattle.reader.specs.Moves.{arriving, moved, ready, restOf, past}
 use Rattle.reader.specs.States.{newReader, unread}
 use Rattle.reader.specs.declared.moves.Arrived.the-variants.{At, Corrupted}
@@ -93,7 +93,7 @@ Enough flash page n = (o len crc k : ℕ) (buffers : ℕ → List ℕ) → Readi
 
 module _ (flash : List ℕ) (page : PageID) (inside : Inside (length flash) (page .0)) where
   -- some of what it can read at once, and the reads after that
-  hand-some : (n : ℕ) → Enough flash page n → (r : PageReader) → readerVerdict (length flash) r ≡ Fine → (buffers : ℕ → List ℕ) → 1 ≤ length (buffers 0)
+  hand-some : (n : ℕ) → Enough flash page n → (r : PageReader) → readerCheck (length flash) r ≡ Fine → (buffers : ℕ → List ℕ) → 1 ≤ length (buffers 0)
       → (o len crc k : ℕ) → ready (pageOf (r .page .0) flash) r ≡ At (on page false o len crc k) → pageOf (r .page .0) flash ≡ pageOf (page .0) flash
       → o + chunkHeaderSize + len ≤ pageSize → k < len
       → ((j : ℕ) → suc j ≤ len - k → Reading flash page n o len (k + suc j) (λ i. buffers (suc i)))
@@ -137,7 +137,7 @@ module _ (flash : List ℕ) (page : PageID) (inside : Inside (length flash) (pag
       by x e v (ready-used bytes r refl used ∙ ap (arriving r (nextOffset o len)) e)
       ∙ sym (ap joined (finds-step bytes (nextOffset o len) ∙ ap (findsAt bytes (nextOffset o len)) e))
     where
-      by : (x : Step) → checkedAt (pageOf (page .0) flash) (nextOffset o len) ≡ x → readerVerdict (length flash) (on page false o len crc k) ≡ Fine
+      by : (x : Step) → checkedAt (pageOf (page .0) flash) (nextOffset o len) ≡ x → readerCheck (length flash) (on page false o len crc k) ≡ Fine
           → ready (pageOf (page .0) flash) (on page false o len crc k) ≡ arriving (on page false o len crc k) (nextOffset o len) x
           → joined (reads (suc n) buffers flash (on page false o len crc k)) ≡ joined (findsAt (pageOf (page .0) flash) (nextOffset o len) x)
       by step.End e v at =
@@ -184,7 +184,7 @@ module _ (flash : List ℕ) (page : PageID) (inside : Inside (length flash) (pag
 
   opened-hands-out : (o : ℕ) → o % align ≡ 0 → pageHeaderSize ≤ o → o ≤ pageSize → All NotEmpty (walkFrom (pageOf (page .0) flash) o .chunks)
       → (buffers : ℕ → List ℕ) → ((i : ℕ) → 1 ≤ length (buffers i)) → (r : PageReader) (x : Step) → checkedAt (pageOf (page .0) flash) o ≡ x
-      → joined (readAll (reads (suc pageSize) buffers flash) (opened r (arriving (unread page) o x) .answer) (opened r (arriving (unread page) o x) .reader))
+      → joined (readAll (reads (suc pageSize) buffers flash) (openingOf r (arriving (unread page) o x) .answer) (openingOf r (arriving (unread page) o x) .reader))
       ≡ joined (findsAt (pageOf (page .0) flash) o x)
   opened-hands-out o g s w full buffers room r step.Corrupted c = refl
   opened-hands-out o g s w full buffers room r step.End c =
@@ -234,7 +234,7 @@ remaining-in page r e = rw e
 abbrev pub FullBehind : List ℕ → PageReader → Type 0
 FullBehind page r = r .ended ≡ false → All NotEmpty (walkFrom page (nextOffset (r .offset) (r .len)) .chunks)
 
-pub reads-remaining : (flash : List ℕ) (r : PageReader) → readerVerdict (length flash) r ≡ Fine → FullBehind (pageOf (r .page .0) flash) r
+pub reads-remaining : (flash : List ℕ) (r : PageReader) → readerCheck (length flash) r ≡ Fine → FullBehind (pageOf (r .page .0) flash) r
     → (buffers : ℕ → List ℕ) → ((i : ℕ) → 1 ≤ length (buffers i))
     → joined (reads (suc pageSize) buffers flash r) ≡ remaining (pageOf (r .page .0) flash) r
 reads-remaining flash r v full buffers room =
@@ -259,7 +259,7 @@ reads-remaining flash r v full buffers room =
 
 module _ (flash : List ℕ) (magic : ℕ) (page : PageID) (h : ℕ) where
   -- what buffers of any sizes hand out, joined, is what the walk finds, joined
-  pub joined-is-walk : openVerdict (length flash) h page ≡ Fine → pageHeaderFine (pageOf (page .0) flash) magic (page .0) h ≡ true
+  pub joined-is-walk : openCheck (length flash) h page ≡ Fine → pageHeaderFine (pageOf (page .0) flash) magic (page .0) h ≡ true
       → All NotEmpty (walkFrom (pageOf (page .0) flash) (pageHeaderSize + h) .chunks) → (buffers : ℕ → List ℕ) → ((i : ℕ) → 1 ≤ length (buffers i))
       → joined (foundWith buffers flash magic page h) ≡ joined (walkFinds (pageOf (page .0) flash) (pageHeaderSize + h))
   unfolding foundWith openPage
@@ -276,9 +276,9 @@ module _ (flash : List ℕ) (magic : ℕ) (page : PageID) (h : ℕ) where
       → ((i : ℕ) → 1 ≤ length (a i)) → ((i : ℕ) → 1 ≤ length (b i))
       → joined (foundWith a flash magic page h) ≡ joined (foundWith b flash magic page h)
   any-buffers full a b ha hb =
-      by (openVerdict (length flash) h page) refl (pageHeaderFine (pageOf (page .0) flash) magic (page .0) h) refl
+      by (openCheck (length flash) h page) refl (pageHeaderFine (pageOf (page .0) flash) magic (page .0) h) refl
     where
-      by : (v : Verdict) → openVerdict (length flash) h page ≡ v → (t : Bool) → pageHeaderFine (pageOf (page .0) flash) magic (page .0) h ≡ t
+      by : (v : Verdict) → openCheck (length flash) h page ≡ v → (t : Bool) → pageHeaderFine (pageOf (page .0) flash) magic (page .0) h ≡ t
           → joined (foundWith a flash magic page h) ≡ joined (foundWith b flash magic page h)
       by (Refused w) v t f = ap joined (found-refused flash magic page h a w v ∙ sym (found-refused flash magic page h b w v))
       by Fine v false f = ap joined (found-wrong flash magic page h a v f ∙ sym (found-wrong flash magic page h b v f))

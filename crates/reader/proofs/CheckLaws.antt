@@ -13,10 +13,10 @@ use Rattle.types.specs.declared.refusal.Refusal.the-variants.{OutOfRange, BadFl
 use Rattle.types.specs.declared.refusal.Verdict.{Verdict}
 use Rattle.types.specs.declared.refusal.Verdict.the-variants.{Fine, Refused}
 use Rattle.types.proofs.TestLaws.{both-true, le-or-lt}
-use Rattle.flash.specs.Geometry.{flashFine, pageCount, pageStart, hasPage}
+use Rattle.flash.specs.Geometry.{flashFine, wholePages, pageStart, hasPage}
 use Rattle.flash.proofs.GeometryLaws.{fine-whole, page-inside}
 use Rattle.page.specs.Headers.{headerFine}
-use Rattle.reader.specs.Checks.{chunkInRange, inRange, asking, openVerdict, readerVerdict}
+use Rattle.reader.specs.Checks.{chunkInRange, inRange, asking, openCheck, readerCheck}
 use Rattle.reader.specs.declared.page_reader.PageReader.{PageReader}
 
 -- ---- one check, then the others
@@ -117,13 +117,13 @@ range-in r k = rw (lt-ltb (r .page .0) 256 (k .low)) (by (r .ended) refl)
 -- page p lies in a flash of n bytes, and is one of the first 256
 pub record Inside (n p : ℕ) : Type 0 where
   pub fine : flashFine n ≡ true
-  pub has : p < pageCount n
+  pub has : p < wholePages n
   pub whole : pageStart p + pageSize ≤ n
   pub low : p < maxPageCount
 
 inside : (n p : ℕ) → flashFine n ≡ true → hasPage n p ≡ true → Inside n p
 inside n p f e =
-    let has : p < pageCount n = ltb-true _ _ e in
+    let has : p < wholePages n = ltb-true _ _ e in
     record { fine = f; has = has; whole = page-inside n p has; low = omega (arith, fine-whole n f .1 .1) }
 
 pub record OpenKnown (n h : ℕ) (page : PageID) : Type 0 where
@@ -131,8 +131,8 @@ pub record OpenKnown (n h : ℕ) (page : PageID) : Type 0 where
   pub group : h % align ≡ 0
   pub small : h ≤ maxHeaderSize
 
-pub open-known : (n h : ℕ) (page : PageID) → openVerdict n h page ≡ Fine → OpenKnown n h page
-unfolding openVerdict
+pub open-known : (n h : ℕ) (page : PageID) → openCheck n h page ≡ Fine → OpenKnown n h page
+unfolding openCheck
 open-known n h page e =
     let a = asked-both (flashFine n) BadFlash _ e in
     let b = asked-both (headerFine h) BadHeader _ (a .1) in
@@ -144,8 +144,8 @@ pub record ReaderKnown (n : ℕ) (r : PageReader) : Type 0 where
   pub flash : Inside n (r .page .0)
   pub range : InRange r
 
-pub reader-known : (n : ℕ) (r : PageReader) → readerVerdict n r ≡ Fine → ReaderKnown n r
-unfolding readerVerdict
+pub reader-known : (n : ℕ) (r : PageReader) → readerCheck n r ≡ Fine → ReaderKnown n r
+unfolding readerCheck
 reader-known n r e =
     let a = asked-both (flashFine n) BadFlash _ e in
     let b = asked-both (inRange r) BadState _ (a .1) in
@@ -153,6 +153,6 @@ reader-known n r e =
     record { flash = inside n (r .page .0) (a .0) (c .0); range = range-known r (b .0) }
 
 -- the checks pass where each of their tests does
-pub reader-fine : (n : ℕ) (r : PageReader) → flashFine n ≡ true → r .page .0 < pageCount n → InRange r → readerVerdict n r ≡ Fine
-unfolding readerVerdict
-reader-fine n r f has k = rw (f, range-in r k, lt-ltb (r .page .0) (pageCount n) has)
+pub reader-fine : (n : ℕ) (r : PageReader) → flashFine n ≡ true → r .page .0 < wholePages n → InRange r → readerCheck n r ≡ Fine
+unfolding readerCheck
+reader-fine n r f has k = rw (f, range-in r k, lt-ltb (r .page .0) (wholePages n) has)

@@ -27,8 +27,8 @@ use Rattle.page.proofs.ChunkLaws as chunks
 use Rattle.page.proofs.ChunkLaws.{chunk-found, checked-found}
 use Rattle.page.proofs.LaidLaws.{All, walk-count}
 use Rattle.page.proofs.WalkLaws.{walk-chunk}
-use Rattle.reader.specs.Calls.{read, readBytes, opened, openPage}
-use Rattle.reader.specs.Checks.{openVerdict, readerVerdict}
+use Rattle.reader.specs.Calls.{read, readBytes, openingOf, openPage}
+use Rattle.reader.specs.Checks.{openCheck, readerCheck}
 use Rattle.reader.specs.Finds.{NotEmpty, nothingMore, andThen, readOn, reads, readAll, foundWith, found, payloadOf, walkFinds}
 use Rattle.reader.specs.Moves.{arriving, moved, ready, restOf, past}
 use Rattle.reader.specs.States.{newReader, unread}
@@ -50,7 +50,7 @@ take-over (suc n) [] xs h k = absurd (not-suc-le-zero h)
 take-over (suc n) (b ∷ bytes) [] h k = absurd (not-suc-le-zero k)
 take-over (suc n) (b ∷ bytes) (x ∷ xs) h k = ap (λ (l : List ℕ). b ∷ l) (take-over n bytes xs (le-of-suc-le-suc h) (le-of-suc-le-suc k))
 
-module _ (flash : List ℕ) (r : PageReader) (v : readerVerdict (length flash) r ≡ Fine) (n : ℕ) (buffers : ℕ → List ℕ) where
+module _ (flash : List ℕ) (r : PageReader) (v : readerCheck (length flash) r ≡ Fine) (n : ℕ) (buffers : ℕ → List ℕ) where
   reads-as : (p : Passage) → p ≡ read r flash (length (buffers 0))
       → reads (suc n) buffers flash r ≡ readOn (reads n (λ i. buffers (suc i)) flash) (readBytes r flash (buffers 0)) (p .answer) (p .reader)
   unfolding reads
@@ -109,7 +109,7 @@ module _ (flash : List ℕ) (page : PageID) (inside : Inside (length flash) (pag
       → InRange (on page false o len crc position)
   on-range o len crc position g s f w = record { low = inside .low; chunk = λ e. record { group = g; start = s; fits = f; within = w } }
 
-  pub on-fine : (r : PageReader) → r .page ≡ page → InRange r → readerVerdict (length flash) r ≡ Fine
+  pub on-fine : (r : PageReader) → r .page ≡ page → InRange r → readerCheck (length flash) r ≡ Fine
   on-fine r e k = reader-fine (length flash) r (inside .fine) (rw e (inside .has)) k
 
   pub length-payload : (o len : ℕ) → o + chunkHeaderSize + len ≤ pageSize → length (payloadAt (pageOf (page .0) flash) o len) ≡ len
@@ -166,7 +166,7 @@ module _ (flash : List ℕ) (page : PageID) (inside : Inside (length flash) (pag
   -- after an open that passed the page header
   opened-finds : (o : ℕ) → o % align ≡ 0 → pageHeaderSize ≤ o → o ≤ pageSize → All NotEmpty (walkFrom (pageOf (page .0) flash) o .chunks)
       → (r : PageReader) (x : Step) → checkedAt (pageOf (page .0) flash) o ≡ x
-      → readAll (reads (suc pageSize) big flash) (opened r (arriving (unread page) o x) .answer) (opened r (arriving (unread page) o x) .reader)
+      → readAll (reads (suc pageSize) big flash) (openingOf r (arriving (unread page) o x) .answer) (openingOf r (arriving (unread page) o x) .reader)
       ≡ walkFinds (pageOf (page .0) flash) o
   opened-finds o g s w full r step.Corrupted c = sym (finds-step (pageOf (page .0) flash) o ∙ ap (findsAt (pageOf (page .0) flash) o) c)
   opened-finds o g s w full r step.End c =
@@ -184,7 +184,7 @@ module _ (flash : List ℕ) (page : PageID) (inside : Inside (length flash) (pag
 
 module _ (flash : List ℕ) (magic : ℕ) (page : PageID) (h : ℕ) where
   -- FOUND IS WALK: what a new reader finds on a page whose chunks are not empty
-  pub found-is-walk : openVerdict (length flash) h page ≡ Fine → pageHeaderFine (pageOf (page .0) flash) magic (page .0) h ≡ true
+  pub found-is-walk : openCheck (length flash) h page ≡ Fine → pageHeaderFine (pageOf (page .0) flash) magic (page .0) h ≡ true
       → All NotEmpty (walkFrom (pageOf (page .0) flash) (pageHeaderSize + h) .chunks)
       → found flash magic page h ≡ walkFinds (pageOf (page .0) flash) (pageHeaderSize + h)
   unfolding found foundWith openPage
@@ -196,7 +196,7 @@ module _ (flash : List ℕ) (magic : ℕ) (page : PageID) (h : ℕ) where
       (opened-finds flash page (k .flash) (12 + h) (omega arith) (omega arith) (omega arith) full newReader (checkedAt (pageOf (page .0) flash) (12 + h)) refl)
 
   -- all sums are right and the walk ends: exactly the payloads of the walk's list
-  pub found-whole : (e : ℕ) → openVerdict (length flash) h page ≡ Fine → pageHeaderFine (pageOf (page .0) flash) magic (page .0) h ≡ true
+  pub found-whole : (e : ℕ) → openCheck (length flash) h page ≡ Fine → pageHeaderFine (pageOf (page .0) flash) magic (page .0) h ≡ true
       → All NotEmpty (walkFrom (pageOf (page .0) flash) (pageHeaderSize + h) .chunks)
       → All (Right (pageOf (page .0) flash)) (walkFrom (pageOf (page .0) flash) (pageHeaderSize + h) .chunks)
       → walkFrom (pageOf (page .0) flash) (pageHeaderSize + h) .ending ≡ ending.EndAt e
@@ -206,12 +206,12 @@ module _ (flash : List ℕ) (magic : ℕ) (page : PageID) (h : ℕ) where
       found-is-walk v f full ∙ good-whole (pageOf (page .0) flash) (w .chunks) (w .ending) right ∙ rw end
 
   -- nothing is found where the page header, or a check before it, refuses
-  pub found-refused : (buffers : ℕ → List ℕ) (w : Refusal) → openVerdict (length flash) h page ≡ Refused w
+  pub found-refused : (buffers : ℕ → List ℕ) (w : Refusal) → openCheck (length flash) h page ≡ Refused w
       → foundWith buffers flash magic page h ≡ nothingMore (Refused w)
   unfolding foundWith openPage
   found-refused buffers w v = rw v
 
-  pub found-wrong : (buffers : ℕ → List ℕ) → openVerdict (length flash) h page ≡ Fine → pageHeaderFine (pageOf (page .0) flash) magic (page .0) h ≡ false
+  pub found-wrong : (buffers : ℕ → List ℕ) → openCheck (length flash) h page ≡ Fine → pageHeaderFine (pageOf (page .0) flash) magic (page .0) h ≡ false
       → foundWith buffers flash magic page h ≡ nothingMore (Refused row.Corrupted)
   unfolding foundWith openPage
   found-wrong buffers v f = rw (v, f)

@@ -12,7 +12,7 @@ use Rattle.crc.specs.Published.{published}
 use Rattle.flash.specs.Geometry.{pageOf}
 use Rattle.page.specs.Chunks.{payloadAt}
 use Rattle.reader.specs.Calls.{rehydrateFrom}
-use Rattle.reader.specs.Checks.{readerVerdict}
+use Rattle.reader.specs.Checks.{readerCheck}
 use Rattle.reader.specs.States.{stored}
 use Rattle.types.specs.declared.answers.Outcome.the-variants as outcome
 use Rattle.reader.specs.declared.page_reader.PageReader.{PageReader}
@@ -20,7 +20,7 @@ use Rattle.page.proofs.ChunkLaws.{fine-sum}
 use Rattle.reader.proofs.OpenLaws.{rehydrate-ended, rehydrate-right}
 use Rattle.reader.proofs.StandingLaws.{Stands}
 
-pub kept-comes-back : (r s : PageReader) (flash : List ℕ) (page : PageID) (o : ℕ) → readerVerdict (length flash) s ≡ Fine → Stands page (pageOf (page .0) flash) o s
+pub kept-comes-back : (r s : PageReader) (flash : List ℕ) (page : PageID) (o : ℕ) → readerCheck (length flash) s ≡ Fine → Stands page (pageOf (page .0) flash) o s
     → rehydrateFrom r flash (stored s) ≡ record { answer = outcome.Done; reader = s }
 kept-comes-back r s flash page o v k =
     ⊎-elim (λ e. sym (rehydrate-ended r flash (stored s) v e)) (λ e. sym (rehydrate-right r flash (stored s) v e (sum e))) (decided (s .ended))

@@ -18,7 +18,7 @@ use Rattle.flash.proofs.GeometryLaws.{length-page}
 use Rattle.page.specs.Chunks.{payloadAt, checkedAt}
 use Rattle.page.specs.Headers.{headerOf, pageHeaderFine}
 use Rattle.reader.specs.Calls.{readHeader, filled, readHeaderBytes, openPage, openBytes, rehydrateFrom}
-use Rattle.reader.specs.Checks.{openVerdict, readerVerdict}
+use Rattle.reader.specs.Checks.{openCheck, readerCheck}
 use Rattle.reader.specs.Moves.{arriving}
 use Rattle.reader.specs.States.{unread, restored}
 use Rattle.reader.specs.declared.answers.Opening.{Opening}
@@ -39,7 +39,7 @@ over-all (b ∷ bytes) [] e = absurd (omega arith)
 over-all (b ∷ bytes) (x ∷ xs) e = ap (λ (l : List ℕ). b ∷ l) (over-all bytes xs (omega arith))
 
 module _ (flash : List ℕ) (magic : ℕ) (page : PageID) (header : List ℕ) where
-  header-put : openVerdict (length flash) (length header) page ≡ Fine
+  header-put : openCheck (length flash) (length header) page ≡ Fine
       → over (headerOf (pageOf (page .0) flash) (length header)) header ≡ headerOf (pageOf (page .0) flash) (length header)
   header-put v =
       let k = open-known (length flash) (length header) page v in
@@ -79,7 +79,7 @@ module _ (flash : List ℕ) (magic : ℕ) (page : PageID) (header : List ℕ) wh
       × (header ≡ openBytes r flash magic page header)
   open-no w r e = (e, open-kept w r (sym (ap (λ (o : Opening). o .answer) e)))
 
-  module _ (w : Refusal) (v : openVerdict (length flash) (length header) page ≡ Refused w) where
+  module _ (w : Refusal) (v : openCheck (length flash) (length header) page ≡ Refused w) where
     pub header-refused : (outcome.Refused w ≡ readHeader flash magic page (length header)) × (header ≡ readHeaderBytes flash magic page header)
     unfolding readHeader
     header-refused = header-no w (rw v)
@@ -90,7 +90,7 @@ module _ (flash : List ℕ) (magic : ℕ) (page : PageID) (header : List ℕ) wh
     unfolding openPage
     open-refused r = open-no w r (rw v)
 
-  module _ (v : openVerdict (length flash) (length header) page ≡ Fine) where
+  module _ (v : openCheck (length flash) (length header) page ≡ Fine) where
     module _ (f : pageHeaderFine (pageOf (page .0) flash) magic (page .0) (length header) ≡ false) where
       pub header-wrong : (outcome.Refused row.Corrupted ≡ readHeader flash magic page (length header)) × (header ≡ readHeaderBytes flash magic page header)
       unfolding readHeader
@@ -127,12 +127,12 @@ module _ (flash : List ℕ) (magic : ℕ) (page : PageID) (header : List ℕ) wh
 -- ---- rehydrate_from
 
 module _ (r : PageReader) (flash : List ℕ) (d : DehydratedPageReader) where
-  pub rehydrate-refused : (w : Refusal) → readerVerdict (length flash) (restored d) ≡ Refused w
+  pub rehydrate-refused : (w : Refusal) → readerCheck (length flash) (restored d) ≡ Refused w
       → _≡_ {A = Opening} (record { answer = outcome.Refused w; reader = r }) (rehydrateFrom r flash d)
   unfolding rehydrateFrom
   rehydrate-refused w v = rw v
 
-  module _ (v : readerVerdict (length flash) (restored d) ≡ Fine) where
+  module _ (v : readerCheck (length flash) (restored d) ≡ Fine) where
     pub rehydrate-ended : d .ended ≡ true → _≡_ {A = Opening} (record { answer = outcome.Done; reader = restored d }) (rehydrateFrom r flash d)
     unfolding rehydrateFrom
     rehydrate-ended e = rw v (rw e)

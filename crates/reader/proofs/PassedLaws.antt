@@ -19,7 +19,7 @@ use Rattle.page.proofs.ChunkLaws.{chunk-found, checked-found, checked-end, chec
 use Rattle.page.proofs.LaidLaws.{All}
 use Rattle.page.proofs.WalkLaws.{walk-chunk, walk-rule}
 use Rattle.reader.specs.Calls.{passageOf, skip}
-use Rattle.reader.specs.Checks.{readerVerdict}
+use Rattle.reader.specs.Checks.{readerCheck}
 use Rattle.reader.specs.Finds.{Joined, NotEmpty, joined, walkFinds, without}
 use Rattle.reader.specs.Moves.{arriving, moved, restOf, past, skipped}
 use Rattle.reader.specs.declared.answers.Count.{Count}
@@ -219,7 +219,7 @@ abbrev pub SkippingBy : List ℕ → PageReader → ℕ → PageReader → Count
 SkippingBy page r n s (count.Bytes k) = Skipping page r n s k
 SkippingBy page r n s (count.Refused w) = (s ≡ r) × ((length (remaining page r .bytes) < n) × (remaining page r .ends ≡ Refused w))
 
-pub skip-passes : (flash : List ℕ) (r : PageReader) (n : ℕ) → readerVerdict (length flash) r ≡ Fine
+pub skip-passes : (flash : List ℕ) (r : PageReader) (n : ℕ) → readerCheck (length flash) r ≡ Fine
     → SkippingBy (pageOf (r .page .0) flash) r n (skip r flash n .reader) (skip r flash n .answer)
 unfolding skip
 skip-passes flash r n v = rw v (by (skipped page n r) (skip-passing page n r))

@@ -16,8 +16,8 @@ use Rattle.crc.specs.Published.{published}
 use Rattle.flash.specs.Geometry.{pageOf}
 use Rattle.page.specs.Chunks.{nextOffset, payloadAt, checkedAt}
 use Rattle.page.specs.Headers.{pageHeaderFine}
-use Rattle.reader.specs.Calls.{passageAfter, read, taken, skip, passageOf, isAtEof, endTestAfter, tested, openPage, openingAfter, opened, rehydrateFrom}
-use Rattle.reader.specs.Checks.{inRange, openVerdict, readerVerdict}
+use Rattle.reader.specs.Calls.{passageAfter, read, readOf, skip, passageOf, isAtEof, endTestAfter, tested, openPage, openingAfter, openingOf, rehydrateFrom}
+use Rattle.reader.specs.Checks.{inRange, openCheck, readerCheck}
 use Rattle.reader.specs.Moves.{arriving, moved, ready, restOf, past, onward, skipBy, skipped}
 use Rattle.reader.specs.States.{newReader, unread, restored}
 use Rattle.types.specs.declared.answers.Outcome.the-variants as outcome
@@ -112,9 +112,9 @@ module _ (r : PageReader) (flash : List ℕ) (k : inRange r ≡ true) where
   unfolding read
   read-in-range room =
       let page = pageOf (r .page .0) flash in
-      range-after (readerVerdict (length flash) r) (taken page r room (ready page r)) (by page (ready page r) refl)
+      range-after (readerCheck (length flash) r) (readOf page r room (ready page r)) (by page (ready page r) refl)
     where
-      by : (page : List ℕ) (a : Arrived) → ready page r ≡ a → InRange (taken page r room a .reader)
+      by : (page : List ℕ) (a : Arrived) → ready page r ≡ a → InRange (readOf page r room a .reader)
       by page (At s) e = past-range page s (min room (length (restOf page s))) (ready-range page r s (range-known r k) e) (omega arith)
       by page Corrupted e = range-known r k
 
@@ -122,7 +122,7 @@ module _ (r : PageReader) (flash : List ℕ) (k : inRange r ≡ true) where
   unfolding skip
   skip-in-range n =
       let page = pageOf (r .page .0) flash in
-      range-after (readerVerdict (length flash) r) (passageOf r n (skipped page n r)) (by page (skipped page n r) refl)
+      range-after (readerCheck (length flash) r) (passageOf r n (skipped page n r)) (by page (skipped page n r) refl)
     where
       by : (page : List ℕ) (p : Passed) → skipped page n r ≡ p → InRange (passageOf r n p .reader)
       by page (passed.To s left) e = skip-range page n r s left (range-known r k) e
@@ -130,7 +130,7 @@ module _ (r : PageReader) (flash : List ℕ) (k : inRange r ≡ true) where
 
   pub eof-in-range : inRange (isAtEof r flash .reader) ≡ true
   unfolding isAtEof
-  eof-in-range = by (readerVerdict (length flash) r) (pageOf (r .page .0) flash) (ready (pageOf (r .page .0) flash) r) refl
+  eof-in-range = by (readerCheck (length flash) r) (pageOf (r .page .0) flash) (ready (pageOf (r .page .0) flash) r) refl
     where
       by : (v : Verdict) (page : List ℕ) (a : Arrived) → ready page r ≡ a → inRange (endTestAfter v r (tested r a) .reader) ≡ true
       by (Refused w) page a e = k
@@ -142,14 +142,14 @@ pub open-in-range : (r : PageReader) (flash : List ℕ) (magic : ℕ) (page : Pa
     → inRange (openPage r flash magic page h .reader) ≡ true
 unfolding openPage
 open-in-range r flash magic page h e =
-    by (openVerdict (length flash) h page) refl (pageHeaderFine bytes magic (page .0) h) (arriving (unread page) (12 + h) (checkedAt bytes (12 + h))) refl e
+    by (openCheck (length flash) h page) refl (pageHeaderFine bytes magic (page .0) h) (arriving (unread page) (12 + h) (checkedAt bytes (12 + h))) refl e
   where
     bytes : List ℕ
     bytes = pageOf (page .0) flash
 
-    by : (v : Verdict) → openVerdict (length flash) h page ≡ v → (t : Bool) (a : Arrived) → arriving (unread page) (12 + h) (checkedAt bytes (12 + h)) ≡ a
-        → openingAfter v r (opened r (cond t a Corrupted)) .answer ≡ outcome.Done
-        → inRange (openingAfter v r (opened r (cond t a Corrupted)) .reader) ≡ true
+    by : (v : Verdict) → openCheck (length flash) h page ≡ v → (t : Bool) (a : Arrived) → arriving (unread page) (12 + h) (checkedAt bytes (12 + h)) ≡ a
+        → openingAfter v r (openingOf r (cond t a Corrupted)) .answer ≡ outcome.Done
+        → inRange (openingAfter v r (openingOf r (cond t a Corrupted)) .reader) ≡ true
     by (Refused w) f t a g e = let z : _≡_ {A = ℕ} 0 1 = cc in absurd (omega arith)
     by Fine f false a g e = let z : _≡_ {A = ℕ} 0 1 = cc in absurd (omega arith)
     by Fine f true Corrupted g e = let z : _≡_ {A = ℕ} 0 1 = cc in absurd (omega arith)
@@ -162,11 +162,11 @@ pub rehydrate-in-range : (r : PageReader) (flash : List ℕ) (d : DehydratedPage
     → inRange (rehydrateFrom r flash d .reader) ≡ true
 unfolding rehydrateFrom
 rehydrate-in-range r flash d e =
-    by (readerVerdict (length flash) (restored d)) refl (restored d .ended || eqb (published (payloadAt (pageOf (d .page .0) flash) (d .offset) (d .len))) (d .crc)) e
+    by (readerCheck (length flash) (restored d)) refl (restored d .ended || eqb (published (payloadAt (pageOf (d .page .0) flash) (d .offset) (d .len))) (d .crc)) e
   where
-    by : (v : Verdict) → readerVerdict (length flash) (restored d) ≡ v → (t : Bool)
-        → openingAfter v r (opened r (cond t (At (restored d)) Corrupted)) .answer ≡ outcome.Done
-        → inRange (openingAfter v r (opened r (cond t (At (restored d)) Corrupted)) .reader) ≡ true
+    by : (v : Verdict) → readerCheck (length flash) (restored d) ≡ v → (t : Bool)
+        → openingAfter v r (openingOf r (cond t (At (restored d)) Corrupted)) .answer ≡ outcome.Done
+        → inRange (openingAfter v r (openingOf r (cond t (At (restored d)) Corrupted)) .reader) ≡ true
     by (Refused w) f t e = let z : _≡_ {A = ℕ} 0 1 = cc in absurd (omega arith)
     by Fine f false e = let z : _≡_ {A = ℕ} 0 1 = cc in absurd (omega arith)
     by Fine f true e = range-in (restored d) (reader-known (length flash) (restored d) f .range)

@@ -14,7 +14,7 @@ use Rattle.types.proofs.TestLaws.{decided}
 use Rattle.flash.specs.Geometry.{pageOf}
 use Rattle.slices.specs.Patch.{over}
 use Rattle.reader.specs.Calls.{read, readBytes, skip, isAtEof}
-use Rattle.reader.specs.Checks.{readerVerdict}
+use Rattle.reader.specs.Checks.{readerCheck}
 use Rattle.reader.specs.Moves.{Whole, ready, restOf, past, skipped}
 use Rattle.reader.specs.declared.answers.Count.the-variants as count
 use Rattle.reader.specs.declared.answers.EndTest.the-variants as endTest
@@ -29,12 +29,12 @@ use Rattle.reader.proofs.SkipLaws.{skip-ended, skip-here}
 
 module _ (r : PageReader) (flash : List ℕ) where
   -- a reader that passed its checks is whole
-  pub known-whole : readerVerdict (length flash) r ≡ Fine → Whole r
+  pub known-whole : readerCheck (length flash) r ≡ Fine → Whole r
   known-whole v e = let k = reader-known (length flash) r v .range .chunk e in (k .fits, k .within)
 
   -- ---- refused by a check
 
-  module _ (w : Refusal) (v : readerVerdict (length flash) r ≡ Refused w) where
+  module _ (w : Refusal) (v : readerCheck (length flash) r ≡ Refused w) where
     pub read-refused : (buffer : List ℕ)
         → (_≡_ {A = Passage} (record { answer = count.Refused w; reader = r }) (read r flash (length buffer))) × (buffer ≡ readBytes r flash buffer)
     unfolding read readBytes
@@ -50,7 +50,7 @@ module _ (r : PageReader) (flash : List ℕ) where
 
   -- ---- after its checks
 
-  module _ (v : readerVerdict (length flash) r ≡ Fine) where
+  module _ (v : readerCheck (length flash) r ≡ Fine) where
     pub read-bad : (buffer : List ℕ) → ready (pageOf (r .page .0) flash) r ≡ Corrupted
         → (_≡_ {A = Passage} (record { answer = count.Refused row.Corrupted; reader = r }) (read r flash (length buffer))) × (buffer ≡ readBytes r flash buffer)
     unfolding read readBytes

@@ -7,8 +7,8 @@ use lib.ListN.{length}
 use Rattle.types.specs.declared.refusal.Verdict.{Verdict}
 use Rattle.types.specs.declared.refusal.Verdict.the-variants.{Fine, Refused}
 use Rattle.flash.specs.Geometry.{pageOf}
-use Rattle.reader.specs.Calls.{read, passageAfter, taken}
-use Rattle.reader.specs.Checks.{readerVerdict}
+use Rattle.reader.specs.Calls.{read, passageAfter, readOf}
+use Rattle.reader.specs.Checks.{readerCheck}
 use Rattle.reader.specs.Moves.{ready, restOf}
 use Rattle.reader.specs.declared.answers.Count.the-variants as count
 use Rattle.reader.specs.declared.moves.Arrived.{Arrived}
@@ -16,7 +16,7 @@ use Rattle.reader.specs.declared.moves.Arrived.the-variants.{At, Corrupt
 use Rattle.reader.specs.declared.page_reader.PageReader.{PageReader}
 
 module _ (page : List ℕ) (r : PageReader) (room n : ℕ) where
-  most-of : (v : Verdict) (a : Arrived) → passageAfter v r (taken page r room a) .answer ≡ count.Bytes n → n ≤ room
+  most-of : (v : Verdict) (a : Arrived) → passageAfter v r (readOf page r room a) .answer ≡ count.Bytes n → n ≤ room
   most-of (Refused why) a e = let z : _≡_ {A = ℕ} 0 1 = cc in absurd (omega arith)
   most-of Fine Corrupted e = let z : _≡_ {A = ℕ} 0 1 = cc in absurd (omega arith)
   most-of Fine (At s) e = let z : min room (length (restOf page s)) ≡ n = cc in omega arith
@@ -24,4 +24,4 @@ module _ (page : List ℕ) (r : PageReader) (room n : ℕ) where
 pub read-most : (r : PageReader) (flash : List ℕ) (room n : ℕ) → read r flash room .answer ≡ count.Bytes n → n ≤ room
 unfolding read
 read-most r flash room n e =
-    most-of (pageOf (r .page .0) flash) r room n (readerVerdict (length flash) r) (ready (pageOf (r .page .0) flash) r) e
+    most-of (pageOf (r .page .0) flash) r room n (readerCheck (length flash) r) (ready (pageOf (r .page .0) flash) r) e

@@ -21,9 +21,9 @@ use Rattle.page.specs.Headers.{pageHeaderFine}
 use Rattle.page.specs.Walks.{Chunk, Walked, walkFrom}
 use Rattle.page.proofs.ChunkLaws.{checked-fine}
 use Rattle.page.proofs.WalkLaws.{walk-chunk}
-use Rattle.reader.specs.Calls.{passageAfter, taken, laidOver, bytesAfter, passageOf, endTestAfter, tested, openingAfter, opened}
+use Rattle.reader.specs.Calls.{passageAfter, readOf, laidOver, bytesAfter, passageOf, endTestAfter, tested, openingAfter, openingOf}
 use Rattle.reader.specs.Calls.{read, readBytes, skip, isAtEof, openPage, rehydrateFrom}
-use Rattle.reader.specs.Checks.{openVerdict, readerVerdict}
+use Rattle.reader.specs.Checks.{openCheck, readerCheck}
 use Rattle.reader.specs.Finds.{payloadOf, sumRight}
 use Rattle.reader.specs.Moves.{arriving, moved, ready, restOf, past, onward, skipBy, skipped}
 use Rattle.reader.specs.States.{unread, restored}
@@ -116,11 +116,11 @@ module _ (page : PageID) (bytes : List ℕ) (o : ℕ) where
   -- ---- after the checks of a call
 
   module _ (r : PageReader) (k : Stands page bytes o r) where
-    taken-stands : (room : ℕ) (v : Verdict) → Stands page bytes o (passageAfter v r (taken bytes r room (ready bytes r)) .reader)
+    taken-stands : (room : ℕ) (v : Verdict) → Stands page bytes o (passageAfter v r (readOf bytes r room (ready bytes r)) .reader)
     taken-stands room (Refused w) = k
     taken-stands room Fine = by (ready bytes r) refl
       where
-        by : (a : Arrived) → ready bytes r ≡ a → Stands page bytes o (taken bytes r room a .reader)
+        by : (a : Arrived) → ready bytes r ≡ a → Stands page bytes o (readOf bytes r room a .reader)
         by (At s) e = ready-stands r s k e
         by Corrupted e = k
 
@@ -150,21 +150,21 @@ module _ (flash : List ℕ) (page : PageID) (o : ℕ) (r : PageReader) (k : Stan
   pub read-stands : (room : ℕ) → Stands page (pageOf (page .0) flash) o (read r flash room .reader)
   unfolding read
   read-stands room =
-      let v = readerVerdict (length flash) r in
-      subst (λ (b : List ℕ). Stands page (pageOf (page .0) flash) o (passageAfter v r (taken b r room (ready b r)) .reader)) same-bytes
+      let v = readerCheck (length flash) r in
+      subst (λ (b : List ℕ). Stands page (pageOf (page .0) flash) o (passageAfter v r (readOf b r room (ready b r)) .reader)) same-bytes
       (taken-stands page (pageOf (page .0) flash) o r k room v)
 
   pub eof-stands : Stands page (pageOf (page .0) flash) o (isAtEof r flash .reader)
   unfolding isAtEof
   eof-stands =
-      let v = readerVerdict (length flash) r in
+      let v = readerCheck (length flash) r in
       subst (λ (b : List ℕ). Stands page (pageOf (page .0) flash) o (endTestAfter v r (tested r (ready b r)) .reader)) same-bytes
       (tested-stands page (pageOf (page .0) flash) o r k v)
 
   pub skip-stands : (n : ℕ) → Stands page (pageOf (page .0) flash) o (skip r flash n .reader)
   unfolding skip
   skip-stands n =
-      let v = readerVerdict (length flash) r in
+      let v = readerCheck (length flash) r in
       subst (λ (b : List ℕ). Stands page (pageOf (page .0) flash) o (passageAfter v r (passageOf r n (skipped b n r)) .reader)) same-bytes
       (passed-stands page (pageOf (page .0) flash) o r k n v)
 
@@ -174,14 +174,14 @@ pub open-stands : (r : PageReader) (flash : List ℕ) (magic : ℕ) (page : Page
     × Stands page (pageOf (page .0) flash) (pageHeaderSize + h) (openPage r flash magic page h .reader)
 unfolding openPage
 open-stands r flash magic page h e =
-    by (openVerdict (length flash) h page) (pageHeaderFine bytes magic (page .0) h) refl (arriving (unread page) (12 + h) (checkedAt bytes (12 + h))) refl e
+    by (openCheck (length flash) h page) (pageHeaderFine bytes magic (page .0) h) refl (arriving (unread page) (12 + h) (checkedAt bytes (12 + h))) refl e
   where
     bytes : List ℕ
     bytes = pageOf (page .0) flash
 
     by : (v : Verdict) (t : Bool) → pageHeaderFine bytes magic (page .0) h ≡ t → (a : Arrived) → arriving (unread page) (12 + h) (checkedAt bytes (12 + h)) ≡ a
-        → openingAfter v r (opened r (cond t a Corrupted)) .answer ≡ outcome.Done
-        → (t ≡ true) × Stands page bytes (12 + h) (openingAfter v r (opened r (cond t a Corrupted)) .reader)
+        → openingAfter v r (openingOf r (cond t a Corrupted)) .answer ≡ outcome.Done
+        → (t ≡ true) × Stands page bytes (12 + h) (openingAfter v r (openingOf r (cond t a Corrupted)) .reader)
     by (Refused w) t f a g e = let z : _≡_ {A = ℕ} 0 1 = cc in absurd (omega arith)
     by Fine false f a g e = let z : _≡_ {A = ℕ} 0 1 = cc in absurd (omega arith)
     by Fine true f Corrupted g e = let z : _≡_ {A = ℕ} 0 1 = cc in absurd (omega arith)
@@ -194,10 +194,10 @@ pub rehydrate-restores : (r : PageReader) (flash : List ℕ) (d : DehydratedPage
     → rehydrateFrom r flash d .reader ≡ restored d
 unfolding rehydrateFrom
 rehydrate-restores r flash d e =
-    by (readerVerdict (length flash) (restored d)) (restored d .ended || eqb (published (payloadAt (pageOf (d .page .0) flash) (d .offset) (d .len))) (d .crc)) e
+    by (readerCheck (length flash) (restored d)) (restored d .ended || eqb (published (payloadAt (pageOf (d .page .0) flash) (d .offset) (d .len))) (d .crc)) e
   where
-    by : (v : Verdict) (t : Bool) → openingAfter v r (opened r (cond t (At (restored d)) Corrupted)) .answer ≡ outcome.Done
-        → openingAfter v r (opened r (cond t (At (restored d)) Corrupted)) .reader ≡ restored d
+    by : (v : Verdict) (t : Bool) → openingAfter v r (openingOf r (cond t (At (restored d)) Corrupted)) .answer ≡ outcome.Done
+        → openingAfter v r (openingOf r (cond t (At (restored d)) Corrupted)) .reader ≡ restored d
     by (Refused w) t e = let z : _≡_ {A = ℕ} 0 1 = cc in absurd (omega arith)
     by Fine false e = let z : _≡_ {A = ℕ} 0 1 = cc in absurd (omega arith)
     by Fine true e = refl
@@ -266,11 +266,11 @@ module _ (page : PageID) (bytes : List ℕ) (o : ℕ) (r : PageReader) (k : Stan
   at-handed s (suc n) at e = some-handed s n at e
 
   work-handed : (v : Verdict)
-      → HandedBy bytes o buffer (bytesAfter v buffer (laidOver bytes buffer (ready bytes r))) (passageAfter v r (taken bytes r (length buffer) (ready bytes r)) .answer)
+      → HandedBy bytes o buffer (bytesAfter v buffer (laidOver bytes buffer (ready bytes r))) (passageAfter v r (readOf bytes r (length buffer) (ready bytes r)) .answer)
   work-handed (Refused w) = refl
   work-handed Fine = by (ready bytes r) refl
     where
-      by : (a : Arrived) → ready bytes r ≡ a → HandedBy bytes o buffer (laidOver bytes buffer a) (taken bytes r (length buffer) a .answer)
+      by : (a : Arrived) → ready bytes r ≡ a → HandedBy bytes o buffer (laidOver bytes buffer a) (readOf bytes r (length buffer) a .answer)
       by (At s) e = at-handed s (min (length buffer) (length (restOf bytes s))) e refl
       by Corrupted e = refl
 
@@ -278,9 +278,9 @@ pub read-hands : (flash : List ℕ) (page : PageID) (o : ℕ) (r : PageReader) �
     → HandedBy (pageOf (page .0) flash) o buffer (readBytes r flash buffer) (read r flash (length buffer) .answer)
 unfolding read readBytes
 read-hands flash page o r k buffer =
-    let v = readerVerdict (length flash) r in
+    let v = readerCheck (length flash) r in
     let bytes = pageOf (page .0) flash in
     subst
     (λ (b : List ℕ).
-    HandedBy bytes o buffer (bytesAfter v buffer (laidOver b buffer (ready b r))) (passageAfter v r (taken b r (length buffer) (ready b r)) .answer))
+    HandedBy bytes o buffer (bytesAfter v buffer (laidOver b buffer (ready b r))) (passageAfter v r (readOf b r (length buffer) (ready b r)) .answer))
     (same-bytes flash page o r k) (work-handed page bytes o r k buffer v)

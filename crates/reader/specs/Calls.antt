@@ -15,7 +15,7 @@ use Rattle.flash.specs.Geometry.{pageOf}
 use Rattle.slices.specs.Patch.{over}
 use Rattle.page.specs.Chunks.{payloadAt, checkedAt}
 use Rattle.page.specs.Headers.{headerOf, pageHeaderFine}
-use Rattle.reader.specs.Checks.{stateVerdict, openVerdict, readerVerdict}
+use Rattle.reader.specs.Checks.{stateCheck, openCheck, readerCheck}
 use Rattle.reader.specs.Moves.{arriving, ready, restOf, past, skipped}
 use Rattle.reader.specs.States.{unread, stored, restored}
 use Rattle.reader.specs.declared.answers.Count.the-variants as count
@@ -46,7 +46,7 @@ outcomeAfter (Refused why) work = outcome.Refused why
 -- 1 where the page header is not fine
 unfoldable pub readHeader : List ℕ → ℕ → PageID → ℕ → Outcome
 readHeader flash magic page h =
-    outcomeAfter (openVerdict (length flash) h page)
+    outcomeAfter (openCheck (length flash) h page)
     (cond (pageHeaderFine (pageOf (page .0) flash) magic (page .0) h) outcome.Done (outcome.Refused row.Corrupted))
 
 -- the header buffer afterwards: the higher header's bytes, where nothing was refused
@@ -66,16 +66,16 @@ opening bytes magic page h =
     cond (pageHeaderFine bytes magic (page .0) h) (arriving (unread page) (pageHeaderSize + h) (checkedAt bytes (pageHeaderSize + h))) Corrupted
 
 -- the reader that comes back: the one that arrived, or the one at entry
-abbrev pub opened : PageReader → Arrived → Opening
-opened r (At s) = record { answer = outcome.Done; reader = s }
-opened r Corrupted = record { answer = outcome.Refused row.Corrupted; reader = r }
+abbrev pub openingOf : PageReader → Arrived → Opening
+openingOf r (At s) = record { answer = outcome.Done; reader = s }
+openingOf r Corrupted = record { answer = outcome.Refused row.Corrupted; reader = r }
 
 abbrev pub openingAfter : Verdict → PageReader → Opening → Opening
 openingAfter Fine r work = work
 openingAfter (Refused why) r work = record { answer = outcome.Refused why; reader = r }
 
 unfoldable pub openPage : PageReader → List ℕ → ℕ → PageID → ℕ → Opening
-openPage r flash magic page h = openingAfter (openVerdict (length flash) h page) r (opened r (opening (pageOf (page .0) flash) magic page h))
+openPage r flash magic page h = openingAfter (openCheck (length flash) h page) r (openingOf r (opening (pageOf (page .0) flash) magic page h))
 
 -- the header buffer afterwards, which keeps its bytes where the first chunk is bad
 unfoldable pub openBytes : PageReader → List ℕ → ℕ → PageID → List ℕ → List ℕ
@@ -89,14 +89,14 @@ passageAfter Fine r work = work
 passageAfter (Refused why) r work = record { answer = count.Refused why; reader = r }
 
 -- the smaller of the room and what is left is read
-abbrev pub taken : List ℕ → PageReader → ℕ → Arrived → Passage
-taken page r room (At s) =
+abbrev pub readOf : List ℕ → PageReader → ℕ → Arrived → Passage
+readOf page r room (At s) =
     record { answer = count.Bytes (min room (length (restOf page s))); reader = past s (min room (length (restOf page s))) }
-taken page r room Corrupted = record { answer = count.Refused row.Corrupted; reader = r }
+readOf page r room Corrupted = record { answer = count.Refused row.Corrupted; reader = r }
 
 unfoldable pub read : PageReader → List ℕ → ℕ → Passage
 read r flash room =
-    passageAfter (readerVerdict (length flash) r) r (taken (pageOf (r .page .0) flash) r room (ready (pageOf (r .page .0) flash) r))
+    passageAfter (readerCheck (length flash) r) r (readOf (pageOf (r .page .0) flash) r room (ready (pageOf (r .page .0) flash) r))
 
 -- the buffer afterwards: what was read over its start, the rest as it was
 abbrev pub laidOver : List ℕ → List ℕ → Arrived → List ℕ
@@ -109,7 +109,7 @@ bytesAfter (Refused why) buffer work = buffer
 
 unfoldable pub readBytes : PageReader → List ℕ → List ℕ → List ℕ
 readBytes r flash buffer =
-    bytesAfter (readerVerdict (length flash) r) buffer (laidOver (pageOf (r .page .0) flash) buffer (ready (pageOf (r .page .0) flash) r))
+    bytesAfter (readerCheck (length flash) r) buffer (laidOver (pageOf (r .page .0) flash) buffer (ready (pageOf (r .page .0) flash) r))
 
 -- ---- skip
 
@@ -119,7 +119,7 @@ passageOf r n (passed.To s left) = record { answer = count.Bytes (n - left); rea
 passageOf r n passed.Corrupted = record { answer = count.Refused row.Corrupted; reader = r }
 
 unfoldable pub skip : PageReader → List ℕ → ℕ → Passage
-skip r flash n = passageAfter (readerVerdict (length flash) r) r (passageOf r n (skipped (pageOf (r .page .0) flash) n r))
+skip r flash n = passageAfter (readerCheck (length flash) r) r (passageOf r n (skipped (pageOf (r .page .0) flash) n r))
 
 -- ---- is_at_eof
 
@@ -132,7 +132,7 @@ tested r (At s) = record { answer = cond (s .ended) endTest.AtEnd endTest.More; 
 tested r Corrupted = record { answer = endTest.Refused row.Corrupted; reader = r }
 
 unfoldable pub isAtEof : PageReader → List ℕ → EndTested
-isAtEof r flash = endTestAfter (readerVerdict (length flash) r) r (tested r (ready (pageOf (r .page .0) flash) r))
+isAtEof r flash = endTestAfter (readerCheck (length flash) r) r (tested r (ready (pageOf (r .page .0) flash) r))
 
 -- ---- dehydrate, rehydrate_from
 
@@ -141,7 +141,7 @@ dehydrationAfter Fine work = work
 dehydrationAfter (Refused why) work = dehydration.Refused why
 
 unfoldable pub dehydrate : PageReader → Dehydration
-dehydrate r = dehydrationAfter (stateVerdict r) (dehydration.State (stored r))
+dehydrate r = dehydrationAfter (stateCheck r) (dehydration.State (stored r))
 
 -- a kept reader: one at its end, or one whose chunk's payload has the sum that it kept
 abbrev pub rehydrating : List ℕ → PageReader → Arrived
@@ -149,7 +149,7 @@ rehydrating page s = cond (s .ended || eqb (published (payloadAt page (s .offset
 
 unfoldable pub rehydrateFrom : PageReader → List ℕ → DehydratedPageReader → Opening
 rehydrateFrom r flash d =
-    openingAfter (readerVerdict (length flash) (restored d)) r (opened r (rehydrating (pageOf (d .page .0) flash) (restored d)))
+    openingAfter (readerCheck (length flash) (restored d)) r (openingOf r (rehydrating (pageOf (d .page .0) flash) (restored d)))
 
 -- ---- page_id
 
@@ -158,4 +158,4 @@ pageAfter Fine page = of.Page page
 pageAfter (Refused why) page = of.Refused why
 
 unfoldable pub pageId : PageReader → PageOf
-pageId r = pageAfter (stateVerdict r) (r .page)
+pageId r = pageAfter (stateCheck r) (r .page)

@@ -27,17 +27,17 @@ abbrev pub asking : Bool → Refusal → Verdict → Verdict
 asking test why later = cond test later (Refused why)
 
 -- 11, of dehydrate and page_id
-abbrev pub stateVerdict : PageReader → Verdict
-stateVerdict r = asking (inRange r) BadState Fine
+abbrev pub stateCheck : PageReader → Verdict
+stateCheck r = asking (inRange r) BadState Fine
 
 -- 4
-abbrev pub pageVerdict : ℕ → PageID → Verdict
-pageVerdict n page = asking (hasPage n (page .0)) OutOfRange Fine
+abbrev pub pageCheck : ℕ → PageID → Verdict
+pageCheck n page = asking (hasPage n (page .0)) OutOfRange Fine
 
 -- 5, 6, 4, of open and read_header on a flash of n bytes
-unfoldable pub openVerdict : ℕ → ℕ → PageID → Verdict
-openVerdict n h page = asking (flashFine n) BadFlash (asking (headerFine h) BadHeader (pageVerdict n page))
+unfoldable pub openCheck : ℕ → ℕ → PageID → Verdict
+openCheck n h page = asking (flashFine n) BadFlash (asking (headerFine h) BadHeader (pageCheck n page))
 
 -- 5, 11, 4, of every call on a reader that takes the flash
-unfoldable pub readerVerdict : ℕ → PageReader → Verdict
-readerVerdict n r = asking (flashFine n) BadFlash (asking (inRange r) BadState (pageVerdict n (r .page)))
+unfoldable pub readerCheck : ℕ → PageReader → Verdict
+readerCheck n r = asking (flashFine n) BadFlash (asking (inRange r) BadState (pageCheck n (r .page)))

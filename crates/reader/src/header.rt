@@ -1,5 +1,5 @@
 // Reading a page's higher header alone (page.rs, read_header).
-use crate::check::check_open;
+use crate::checks::check_open;
 use flash::geometry::page_of;
 use page::header::header_of;
 use page::header::page_header_fine;

@@ -24,7 +24,7 @@ pub(crate) enum Passed {
 }
 
 // Moves the reader to `at`: the start of a chunk, or the end of the page's chunks.
-pub(crate) fn arrive(r: PageReader, page: &[u8], at: usize) -> Arrived
+pub(crate) fn arriving(r: PageReader, page: &[u8], at: usize) -> Arrived
     ensures answers { λ a. ⌜ a ≡ arriving r at (checkedAt (now (page .entry)) at) ⌝ }
 {
     let id = r.page;
@@ -50,11 +50,11 @@ pub(crate) fn arrive(r: PageReader, page: &[u8], at: usize) -> Arrived
 }
 
 // Moves the reader to the chunk after its own.
-fn next_chunk(r: PageReader, page: &[u8]) -> Arrived
+fn moved(r: PageReader, page: &[u8]) -> Arrived
     requires { ⌜ r .offset + chunkHeaderSize + r .len < 2 ^ 32 ⌝ }
     ensures answers { λ a. ⌜ a ≡ moved (now (page .entry)) r ⌝ }
 {
-    arrive(
+    arriving(
         r,
         page,
         align_up((r.offset + CHUNK_HEADER_SIZE + r.len) as u32),
@@ -62,7 +62,7 @@ fn next_chunk(r: PageReader, page: &[u8]) -> Arrived
 }
 
 // Makes the reader ready to read: if its chunk is used up, it moves to the next one, once.
-pub(crate) fn load(r: PageReader, page: &[u8]) -> Arrived
+pub(crate) fn ready(r: PageReader, page: &[u8]) -> Arrived
     requires { ⌜ Whole r ⌝ }
     ensures answers { λ a. ⌜ a ≡ ready (now (page .entry)) r ⌝ }
 {
@@ -70,7 +70,7 @@ pub(crate) fn load(r: PageReader, page: &[u8]) -> Arrived
         return Arrived::At(r);
     }
     if r.position == r.len {
-        next_chunk(r, page)
+        moved(r, page)
     } else {
         Arrived::At(r)
     }
@@ -89,7 +89,7 @@ pub(crate) fn rest_of(page: &[u8], r: PageReader) -> &[u8]
 }
 
 // The reader n bytes further in its chunk.
-pub(crate) fn step_past(r: PageReader, n: usize) -> PageReader
+pub(crate) fn past(r: PageReader, n: usize) -> PageReader
     requires { ⌜ r .position + n < 2 ^ 64 ⌝ }
     ensures answers { λ s. ⌜ s ≡ past r n ⌝ }
 {
@@ -105,7 +105,7 @@ pub(crate) fn step_past(r: PageReader, n: usize) -> PageReader
 }
 
 // Passes `count` bytes, or goes to the end.
-pub(crate) fn pass(reader: PageReader, page: &[u8], count: usize) -> Passed
+pub(crate) fn skipped(reader: PageReader, page: &[u8], count: usize) -> Passed
     requires { ⌜ Whole reader ⌝ }
     ensures answers { λ p. ⌜ p ≡ skipped (now (page .entry)) count reader ⌝ }
 {
@@ -121,11 +121,11 @@ pub(crate) fn pass(reader: PageReader, page: &[u8], count: usize) -> Passed
         let left = rest_of(page, r).len();
         if want <= left {
             return Passed::To {
-                reader: step_past(r, want),
+                reader: past(r, want),
                 left: 0,
             };
         }
-        match next_chunk(step_past(r, left), page) {
+        match moved(past(r, left), page) {
             Arrived::Corrupted => return Passed::Corrupted,
             Arrived::At(s) => {
                 want -= left;

@@ -6,19 +6,19 @@ use crate::answers::EndTest;
 use crate::answers::EndTested;
 use crate::answers::Opening;
 use crate::answers::Passage;
-use crate::check::check_open;
-use crate::check::check_reader;
-use crate::check::check_state;
+use crate::checks::check_open;
+use crate::checks::check_reader;
+use crate::checks::check_state;
 use crate::dehydrated::DehydratedPageReader;
 use crate::dehydrated::restored_of;
 use crate::dehydrated::stored_of;
 use crate::moves::Arrived;
 use crate::moves::Passed;
-use crate::moves::arrive;
-use crate::moves::load;
-use crate::moves::pass;
+use crate::moves::arriving;
+use crate::moves::past;
+use crate::moves::ready;
 use crate::moves::rest_of;
-use crate::moves::step_past;
+use crate::moves::skipped;
 use crc::crc32;
 use flash::geometry::page_of;
 use page::chunk::payload_at;
@@ -28,7 +28,7 @@ use slices::part;
 use types::answers::Outcome;
 use types::answers::PageOf;
 use types::config::PAGE_HEADER_SIZE;
-use types::num::least;
+use types::num::min;
 use types::page_id::PageID;
 use types::refusal::Refusal;
 use types::refusal::Verdict;
@@ -88,7 +88,7 @@ impl PageReader {
                 reader: self,
             };
         }
-        let Arrived::At(r) = arrive(unread_of(page), bytes, PAGE_HEADER_SIZE + h) else {
+        let Arrived::At(r) = arriving(unread_of(page), bytes, PAGE_HEADER_SIZE + h) else {
             return Opening {
                 answer: Outcome::Refused(Refusal::Corrupted),
                 reader: self,
@@ -114,18 +114,18 @@ impl PageReader {
         }
         let id = self.page;
         let page = page_of(flash, id);
-        let Arrived::At(r) = load(self, page) else {
+        let Arrived::At(r) = ready(self, page) else {
             return Passage {
                 answer: Count::Refused(Refusal::Corrupted),
                 reader: self,
             };
         };
         let rest = rest_of(page, r);
-        let n = least(buffer.len(), rest.len());
+        let n = min(buffer.len(), rest.len());
         part::put(buffer, rest);
         Passage {
             answer: Count::Bytes(n),
-            reader: step_past(r, n),
+            reader: past(r, n),
         }
     }
 
@@ -140,7 +140,7 @@ impl PageReader {
             };
         }
         let id = self.page;
-        match pass(self, page_of(flash, id), count) {
+        match skipped(self, page_of(flash, id), count) {
             Passed::Corrupted => Passage {
                 answer: Count::Refused(Refusal::Corrupted),
                 reader: self,
@@ -163,7 +163,7 @@ impl PageReader {
             };
         }
         let id = self.page;
-        let Arrived::At(r) = load(self, page_of(flash, id)) else {
+        let Arrived::At(r) = ready(self, page_of(flash, id)) else {
             return EndTested {
                 answer: EndTest::Refused(Refusal::Corrupted),
                 reader: self,

@@ -1,7 +1,7 @@
 // One line of a script.
 use crate::world::World;
 use check::same;
-use script::words::word_at;
+use script::words::nth_word;
 use slices::part::part_of;
 
 const LONGEST: usize = 20_000;
@@ -62,7 +62,7 @@ fn on_cursor(w: World, line: &[u8], runs: &mut [u8], ends: &mut [usize]) -> Worl
 }
 
 fn call(w: World, line: &[u8], flash: &mut [u8], runs: &mut [u8], ends: &mut [usize]) -> World {
-    let part = word_at(line, 0);
+    let part = nth_word(line, 0);
     if same(part, b"crc") | same(part, b"flash") {
         return on_flash(w, line, flash);
     }

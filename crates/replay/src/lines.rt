@@ -9,8 +9,8 @@ use script::space::runs_space;
 use script::space::script_space;
 use script::words::end_from;
 use slices::part::part_of;
-use types::num::least;
-use types::num::less;
+use types::num::min;
+use types::num::minus;
 
 // Run ends that a script can give.
 const MOST_ENDS: usize = 32;
@@ -29,14 +29,14 @@ fn answer_lines(script: &[u8], flash: &mut [u8], runs: &mut [u8], ends: &mut [us
     let mut at = 0;
     while at < script.len() {
         let end = end_from(script, at, b'\n');
-        let line = part_of(script, at, less(end, at));
+        let line = part_of(script, at, minus(end, at));
         number += 1;
         w = answer(w, line, flash, runs, ends);
         if !w.fine {
             say_stopped(number, line);
             return;
         }
-        at = least(end, script.len()) + 1;
+        at = min(end, script.len()) + 1;
     }
 }
 

@@ -21,11 +21,11 @@ use script::args::number_at;
 use script::args::number_to;
 use script::args::page_at;
 use script::args::seed_at;
-use script::words::word_at;
+use script::words::nth_word;
 use script::words::word_count;
 use types::answers::Outcome;
 use types::config::MAX_PAGE_COUNT;
-use types::num::least;
+use types::num::min;
 
 // What a line comes to.
 pub struct Reply {
@@ -118,7 +118,7 @@ fn try_allocate_each(a: Allocator, line: &[u8]) -> Reply {
         return no_call(a);
     };
     let mut raws = [0u16; MAX_PAGE_COUNT];
-    let end = least(MAX_PAGE_COUNT, places);
+    let end = min(MAX_PAGE_COUNT, places);
     called(allocated_each(a, &mut raws[0..end]))
 }
 
@@ -128,7 +128,7 @@ fn free_each(a: Allocator, words: usize, line: &[u8]) -> Reply {
     let Number::Value(n) = pages_in(line, words, &mut raws) else {
         return no_call(a);
     };
-    let end = least(MAX_PAGE_COUNT, n);
+    let end = min(MAX_PAGE_COUNT, n);
     changed(several::free_each(a, &raws[0..end]))
 }
 
@@ -235,7 +235,7 @@ fn look(a: Allocator, name: &[u8], words: usize, line: &[u8]) -> Reply {
 
 // Answers a line that starts with `alloc`.
 pub fn answer(a: Allocator, line: &[u8]) -> Reply {
-    let name = word_at(line, 1);
+    let name = nth_word(line, 1);
     let words = word_count(line);
     if same(name, b"new") & (words == 2) {
         say(Word::Ok);

@@ -8,7 +8,7 @@ use replay_say::say;
 use replay_say::word::Word;
 use script::args::Page;
 use script::args::page_at;
-use types::num::least;
+use types::num::min;
 
 fn say_pages(pages: &[u16]) {
     let mut i: usize = 0;
@@ -23,7 +23,7 @@ fn say_pages(pages: &[u16]) {
 fn say_handed(answer: Count, raws: &[u16]) {
     match answer {
         Count::Pages(n) => {
-            let end = least(raws.len(), n);
+            let end = min(raws.len(), n);
             say(Word::Ok);
             say(Word::Number(n));
             say_pages(&raws[0..end]);

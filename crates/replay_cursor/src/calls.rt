@@ -20,12 +20,12 @@ use script::args::bytes_at;
 use script::args::number_at;
 use script::args::number_to;
 use script::space::line_space;
-use script::words::word_at;
+use script::words::nth_word;
 use script::words::word_count;
 use slices::part::part_of;
 use types::answers::Outcome;
 use types::config::FILE_COUNT;
-use types::num::least;
+use types::num::min;
 
 // The longest buffer that a script can ask for.
 const MOST_ROOM: usize = 8192;
@@ -65,7 +65,7 @@ struct PlacesRead {
 }
 
 fn kind_at(line: &[u8], k: usize) -> Kind {
-    let word = word_at(line, k);
+    let word = nth_word(line, k);
     if same(word, b"none") {
         return Kind::Is(Bound::Unbounded);
     }
@@ -90,7 +90,7 @@ fn bound_at(line: &[u8], k: usize, next: usize, key: &mut [u8]) -> BoundRead {
 }
 
 fn place_at(line: &[u8], k: usize) -> PlaceRead {
-    if same(word_at(line, k), b"gone") {
+    if same(nth_word(line, k), b"gone") {
         return PlaceRead::Is(Place::Gone);
     }
     let Number::Value(at) = number_at(line, k) else {
@@ -221,8 +221,8 @@ fn step_within(
     value: &mut [u8],
 ) -> Cursor {
     let bound = ask.bound;
-    let key_end = least(ask.key_room, key.len());
-    let value_end = least(ask.value_room, value.len());
+    let key_end = min(ask.key_room, key.len());
+    let value_end = min(ask.value_room, value.len());
     step(
         before,
         runs,
@@ -248,13 +248,13 @@ fn next(w: State, line: &[u8], runs: &[u8], ends: &[usize]) -> Reply {
 }
 
 fn first_ends(ends: &[usize], count: usize) -> &[usize] {
-    let n = least(count, ends.len());
+    let n = min(count, ends.len());
     &ends[..n]
 }
 
 // Calls that look at the runs, which are lent as they are.
 fn over_runs(w: State, line: &[u8], runs: &[u8], ends: &[usize]) -> Reply {
-    let name = word_at(line, 1);
+    let name = nth_word(line, 1);
     let words = word_count(line);
     if same(name, b"new") & (words == 4) {
         return new(w, line, runs, ends);
@@ -266,7 +266,7 @@ fn over_runs(w: State, line: &[u8], runs: &[u8], ends: &[usize]) -> Reply {
 }
 
 fn on_cursor(w: State, line: &[u8], runs: &[u8], ends: &[usize]) -> Reply {
-    let name = word_at(line, 1);
+    let name = nth_word(line, 1);
     let words = word_count(line);
     if same(name, b"forge") & (words == 2 + FILE_COUNT) {
         return forge(w, line);
@@ -283,7 +283,7 @@ fn on_cursor(w: State, line: &[u8], runs: &[u8], ends: &[usize]) -> Reply {
 
 // Answers a line that starts with `runs` or `cursor`. The runs and their ends stand at the start of two buffers.
 pub fn answer(w: State, line: &[u8], runs: &mut [u8], ends: &mut [usize]) -> Reply {
-    if same(word_at(line, 0), b"runs") {
+    if same(nth_word(line, 0), b"runs") {
         return runs::answer(w, line, runs, ends);
     }
     on_cursor(w, line, runs, ends)

@@ -12,12 +12,12 @@ use replay_say::word::Word;
 use script::args::bytes_at;
 use script::args::number_at;
 use script::space::line_space;
-use script::words::word_at;
+use script::words::nth_word;
 use script::words::word_count;
 use slices::part::part_of;
 use slices::part::put;
-use types::num::least;
-use types::num::less;
+use types::num::min;
+use types::num::minus;
 
 fn ready(w: State) -> Reply {
     say(Word::Ok);
@@ -37,8 +37,8 @@ fn add_bytes(w: State, line: &[u8], runs: &mut [u8]) -> Reply {
     let Number::Value(n) = bytes_at(line, 2, &mut bytes) else {
         return no_call(w);
     };
-    let from = least(w.runs_len, runs.len());
-    if less(runs.len(), from) < n {
+    let from = min(w.runs_len, runs.len());
+    if minus(runs.len(), from) < n {
         return no_call(w);
     }
     put_at(runs, from, part_of(&bytes, 0, n));
@@ -71,7 +71,7 @@ fn poke(w: State, line: &[u8], runs: &mut [u8]) -> Reply {
     if len < at {
         return no_call(w);
     }
-    if less(len, at) < n {
+    if minus(len, at) < n {
         return no_call(w);
     }
     put_at(runs, at, part_of(&bytes, 0, n));
@@ -79,7 +79,7 @@ fn poke(w: State, line: &[u8], runs: &mut [u8]) -> Reply {
 }
 
 pub(crate) fn answer(w: State, line: &[u8], runs: &mut [u8], ends: &mut [usize]) -> Reply {
-    let name = word_at(line, 1);
+    let name = nth_word(line, 1);
     let words = word_count(line);
     if same(name, b"new") & (words == 2) {
         return ready(with_runs(w, 0, 0));

@@ -10,15 +10,15 @@ use replay_say::word::Word;
 use script::args::bytes_at;
 use script::args::number_at;
 use script::space::line_space;
-use script::words::word_at;
+use script::words::nth_word;
 use script::words::word_count;
 use slices::part::part_of;
 use slices::part::put;
 use slices::part::wipe;
 use types::config::ERASE_VALUE;
 use types::config::PAGE_SIZE;
-use types::num::least;
-use types::num::less;
+use types::num::min;
+use types::num::minus;
 
 // What a line comes to.
 pub struct Reply {
@@ -63,17 +63,17 @@ fn place_in(line: &[u8]) -> Number {
 
 // Whether `count` bytes from a place on are there.
 fn fits(end: usize, at: usize, count: usize) -> bool {
-    (at <= end) & (count <= less(end, at))
+    (at <= end) & (count <= minus(end, at))
 }
 
 fn put_at(flash: &mut [u8], at: usize, bytes: &[u8]) {
-    let from = least(at, flash.len());
+    let from = min(at, flash.len());
     put(&mut flash[from..], bytes);
 }
 
 fn wipe_at(flash: &mut [u8], at: usize, count: usize, value: u8) {
-    let start = least(at, flash.len());
-    let end = start + least(count, less(flash.len(), start));
+    let start = min(at, flash.len());
+    let end = start + min(count, minus(flash.len(), start));
     wipe(&mut flash[start..end], value);
 }
 
@@ -175,7 +175,7 @@ fn sum(len: usize, line: &[u8], flash: &[u8]) -> Reply {
 }
 
 fn on_flash(len: usize, line: &[u8], flash: &mut [u8]) -> Reply {
-    let name = word_at(line, 1);
+    let name = nth_word(line, 1);
     let words = word_count(line);
     if same(name, b"pages") & (words == 3) {
         return pages(len, line, flash);
@@ -200,7 +200,7 @@ fn on_flash(len: usize, line: &[u8], flash: &mut [u8]) -> Reply {
 
 // Answers a line that starts with `flash` or `crc`, on a flash of `len` bytes at the start of a buffer.
 pub fn answer(len: usize, line: &[u8], flash: &mut [u8]) -> Reply {
-    if same(word_at(line, 0), b"crc") {
+    if same(nth_word(line, 0), b"crc") {
         return sums::answer(len, line);
     }
     on_flash(len, line, flash)

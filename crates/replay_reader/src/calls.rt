@@ -27,13 +27,13 @@ use script::args::magic_at;
 use script::args::number_at;
 use script::args::page_at;
 use script::space::line_space;
-use script::words::word_at;
+use script::words::nth_word;
 use script::words::word_count;
 use slices::part::part_of;
 use types::answers::Outcome;
 use types::answers::PageOf;
 use types::config::MAX_HEADER_SIZE;
-use types::num::least;
+use types::num::min;
 use types::page_id::PageID;
 
 // The longest buffer that a script reads into.
@@ -104,7 +104,7 @@ fn say_header(answer: Outcome, header: &[u8]) {
 }
 
 fn open_into(r: PageReader, flash: &[u8], named: Named, header: &mut [u8]) -> Opening {
-    let n = least(named.h, header.len());
+    let n = min(named.h, header.len());
     let page = named.page;
     r.open(flash, named.magic, page, &mut header[0..n])
 }
@@ -123,7 +123,7 @@ fn open(w: State, line: &[u8], flash: &[u8]) -> Reply {
 }
 
 fn header_into(flash: &[u8], named: Named, header: &mut [u8]) -> Outcome {
-    let n = least(named.h, header.len());
+    let n = min(named.h, header.len());
     let page = named.page;
     header::read_header(flash, named.magic, page, &mut header[0..n])
 }
@@ -139,7 +139,7 @@ fn read_header(w: State, line: &[u8], flash: &[u8]) -> Reply {
 }
 
 fn read_into(r: PageReader, flash: &[u8], room: usize, buffer: &mut [u8]) -> Passage {
-    let n = least(room, buffer.len());
+    let n = min(room, buffer.len());
     r.read(flash, &mut buffer[0..n])
 }
 
@@ -266,7 +266,7 @@ fn middle(w: State, name: &[u8], line: &[u8], flash: &[u8]) -> Reply {
 }
 
 fn of_reader(w: State, line: &[u8], flash: &[u8]) -> Reply {
-    let name = word_at(line, 1);
+    let name = nth_word(line, 1);
     let words = word_count(line);
     if words == 2 {
         return short(w, name, flash);
@@ -288,7 +288,7 @@ fn of_reader(w: State, line: &[u8], flash: &[u8]) -> Reply {
 
 // Answers a line that starts with `reader` or `slot`.
 pub fn answer(w: State, line: &[u8], flash: &[u8]) -> Reply {
-    if same(word_at(line, 0), b"slot") {
+    if same(nth_word(line, 0), b"slot") {
         return slots::answer(w, line);
     }
     of_reader(w, line, flash)

@@ -22,7 +22,7 @@ use script::args::number_at;
 use script::args::number_to;
 use script::args::page_at;
 use script::args::word32_at;
-use script::words::word_at;
+use script::words::nth_word;
 use script::words::word_count;
 use types::answers::Outcome;
 ghost use Prim.Native.Nat.{_≤_};
@@ -136,7 +136,7 @@ fn show(w: State, line: &[u8]) -> Reply {
 }
 
 pub(crate) fn answer(w: State, line: &[u8]) -> Reply {
-    let name = word_at(line, 1);
+    let name = nth_word(line, 1);
     let words = word_count(line);
     if same(name, b"forge") & (words == 9) {
         return forge(w, line);

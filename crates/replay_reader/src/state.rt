@@ -1,7 +1,7 @@
 // The states that a script's calls on readers work on.
 use reader::dehydrated::DehydratedPageReader;
 use reader::page_reader::PageReader;
-use types::num::least;
+use types::num::min;
 
 // Places for readers that are kept.
 pub const SLOTS: usize = 4;
@@ -35,14 +35,14 @@ pub(crate) fn with_reader(w: State, reader: PageReader) -> Reply {
 
 pub(crate) fn slot_of(w: State, slot: usize) -> DehydratedPageReader {
     let kept = w.kept;
-    let i = least(slot, SLOTS - 1);
+    let i = min(slot, SLOTS - 1);
     kept[i]
 }
 
 pub(crate) fn with_slot(w: State, slot: usize, reader: DehydratedPageReader) -> Reply {
     let mut left = w;
     let mut kept = w.kept;
-    let i = least(slot, SLOTS - 1);
+    let i = min(slot, SLOTS - 1);
     kept[i] = reader;
     left.kept = kept;
     called(left)

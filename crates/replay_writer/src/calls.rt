@@ -21,14 +21,14 @@ use script::args::number_at;
 use script::args::page_at;
 use script::args::word32_at;
 use script::space::line_space;
-use script::words::word_at;
+use script::words::nth_word;
 use script::words::word_count;
 use slices::part::part_of;
 use types::answers::Outcome;
 use types::answers::PageOf;
 use types::config::ALIGN;
-use types::num::least;
-use types::num::less;
+use types::num::min;
+use types::num::minus;
 use writer::answers::Ended;
 use writer::answers::Length;
 use writer::answers::Opened;
@@ -108,7 +108,7 @@ fn write(w: State, line: &[u8], flash: &mut [u8]) -> Reply {
         Taking::Refused(why) => say(Word::No(why)),
     }
     say(Word::Number(wrote.left));
-    say_done(Call::Write, writer, flash, bytes, less(w.left, wrote.left));
+    say_done(Call::Write, writer, flash, bytes, minus(w.left, wrote.left));
     end_line();
     let next = wrote.writer;
     left_with(next, wrote.left)
@@ -127,7 +127,7 @@ fn commit(w: State, flash: &mut [u8]) -> Reply {
     let writer = w.writer;
     let ended = writer.commit(flash, w.left);
     say_ended(ended);
-    say_done(Call::Commit, writer, flash, b"", less(w.left, ended.left));
+    say_done(Call::Commit, writer, flash, b"", minus(w.left, ended.left));
     end_line();
     let next = ended.writer;
     left_with(next, ended.left)
@@ -150,7 +150,7 @@ fn write_header(w: State, line: &[u8], flash: &mut [u8]) -> Reply {
         writer,
         flash,
         bytes,
-        less(w.left, ended.left),
+        minus(w.left, ended.left),
     );
     end_line();
     let next = ended.writer;
@@ -275,7 +275,7 @@ fn on_writer(w: State, name: &[u8], words: usize, line: &[u8]) -> Reply {
 }
 
 fn on_flash(w: State, line: &[u8], flash: &mut [u8]) -> Reply {
-    let name = word_at(line, 1);
+    let name = nth_word(line, 1);
     let words = word_count(line);
     if same(name, b"open") & (words == 4) {
         return open(w, line, flash);
@@ -297,6 +297,6 @@ fn on_flash(w: State, line: &[u8], flash: &mut [u8]) -> Reply {
 
 // Answers a line that starts with `writer`, on a flash of `len` bytes at the start of a buffer.
 pub fn answer(w: State, line: &[u8], len: usize, flash: &mut [u8]) -> Reply {
-    let n = least(len, flash.len());
+    let n = min(len, flash.len());
     on_flash(w, line, &mut flash[..n])
 }

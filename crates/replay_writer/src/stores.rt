@@ -10,8 +10,8 @@ use replay_say::word::Word;
 use script::space::page_space;
 use slices::part::part_of;
 use slices::part::put;
-use types::num::least;
-use types::num::less;
+use types::num::min;
+use types::num::minus;
 use types::page_id::PageID;
 use writer::page_writer::PageWriter;
 
@@ -56,12 +56,12 @@ fn put_page(flash: &mut [u8], page: PageID, bytes: &[u8]) {
 
 // From the first difference to the last.
 fn difference(a: &[u8], b: &[u8]) -> Span {
-    let n = least(a.len(), b.len());
+    let n = min(a.len(), b.len());
     let mut from = n;
     let mut end = 0;
     for i in 0..n {
         if a[i] != b[i] {
-            from = least(from, i);
+            from = min(from, i);
             end = i + 1;
         }
     }
@@ -80,7 +80,7 @@ fn changed_on(
     let page = writer.page;
     let mut before = page_space();
     wipe_page(flash, page, value);
-    make(call, writer, flash, bytes, less(k, 1));
+    make(call, writer, flash, bytes, minus(k, 1));
     put(&mut before, page_of(flash, page));
     make(call, writer, flash, bytes, k);
     difference(&before, page_of(flash, page))
@@ -90,11 +90,11 @@ fn changed_on(
 fn say_store(call: Call, writer: PageWriter, flash: &mut [u8], bytes: &[u8], k: usize) {
     let a = changed_on(0x00, call, writer, flash, bytes, k);
     let b = changed_on(0xFF, call, writer, flash, bytes, k);
-    let from = least(a.from, b.from);
+    let from = min(a.from, b.from);
     let end = if a.end < b.end { b.end } else { a.end };
     say(Word::Store);
     say(Word::Number(from));
-    say_bytes(part_of(page_of(flash, writer.page), from, less(end, from)));
+    say_bytes(part_of(page_of(flash, writer.page), from, minus(end, from)));
 }
 
 fn say_stores(call: Call, writer: PageWriter, flash: &mut [u8], bytes: &[u8], count: usize) {
@@ -118,11 +118,11 @@ pub(crate) fn say_done(
     count: usize,
 ) {
     let page = writer.page;
-    let erases = least(count, writer.armed as usize);
+    let erases = min(count, writer.armed as usize);
     let mut kept = page_space();
     put(&mut kept, page_of(flash, page));
     say(Word::Number(count));
     say_erase(erases != 0);
-    say_stores(call, writer, flash, bytes, less(count, erases));
+    say_stores(call, writer, flash, bytes, minus(count, erases));
     put_page(flash, page, &kept);
 }

@@ -10,7 +10,7 @@ use lib.ListN.{length, getD}
 use borrow.Author.Tests.{ltb-false}
 use Rattle.types.specs.Build.{maxKeySize, maxValueSize}
 use Rattle.types.specs.declared.refusal.Refusal.the-variants.{Corrupted}
-use Rattle.run.specs.Records.{recordHeaderSize, marked, verdictOf, keyLen, valueLen, placed, bodyAt, headBy, headAt}
+use Rattle.run.specs.Records.{recordHeaderSize, hasMark, verdictOf, keyLen, valueLen, recordWith, bodyAt, headBy, headAt}
 use Rattle.run.specs.declared.record.Record.{Record}
 use Rattle.run.specs.declared.record.Head.{Head}
 use Rattle.run.specs.declared.record.Head.the-variants as head
@@ -38,7 +38,7 @@ module _ (size : ℕ) (run : List ℕ) (at : ℕ) where
       → HeadLies size run at
       (cond k (head.Refused Corrupted)
       (cond v (head.Refused Corrupted)
-      (cond end (head.Refused Corrupted) (head.Record (placed deleted (at + size) (keyLen run at) (valueLen run at))))))
+      (cond end (head.Refused Corrupted) (head.Record (recordWith deleted (at + size) (keyLen run at) (valueLen run at))))))
   body-by deleted true v end p q e = tt
   body-by deleted false true end p q e = tt
   body-by deleted false false true p q e = tt
@@ -77,4 +77,4 @@ pub head-lies : (run : List ℕ) (at : ℕ) (r : Record) → headAt run at ≡ h
 unfolding headAt
 head-lies run at r e =
     rw e at
-    (head-by run at (verdictOf (getD run (at + 2) 0)) (eqb at (length run)) (ltb (length run) (at + recordHeaderSize)) (marked run at))
+    (head-by run at (verdictOf (getD run (at + 2) 0)) (eqb at (length run)) (ltb (length run) (at + recordHeaderSize)) (hasMark run at))

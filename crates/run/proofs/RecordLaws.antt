@@ -8,7 +8,7 @@ use borrow.Author.Tests.{lt-ltb, le-ltb, eq-eqb, ne-eqb, lt-leb, le-leb}
 use lib.ListN.{length, getD}
 use Rattle.types.specs.Build.{maxKeySize, maxValueSize}
 use Rattle.types.specs.declared.refusal.Refusal.the-variants.{Corrupted, LaterEdition}
-use Rattle.run.specs.Records.{recordHeaderSize, marked, verdictOf, keyLen, valueLen, placed, bodyAt, headBy, headAt}
+use Rattle.run.specs.Records.{recordHeaderSize, hasMark, verdictOf, keyLen, valueLen, recordWith, bodyAt, headBy, headAt}
 use Rattle.run.specs.declared.record.Head.the-variants as head
 use Rattle.run.specs.declared.record.KindVerdict.{KindVerdict}
 use Rattle.run.specs.declared.record.KindVerdict.the-variants as verdict
@@ -50,7 +50,7 @@ module _ (size : ℕ) (run : List ℕ) (at : ℕ) (deleted : Bool) where
       )
 
       pub body-whole : at + size + keyLen run at + valueLen run at ≤ length run
-          → head.Record (placed deleted (at + size) (keyLen run at) (valueLen run at)) ≡ bodyAt size run at deleted
+          → head.Record (recordWith deleted (at + size) (keyLen run at) (valueLen run at)) ≡ bodyAt size run at deleted
       unfolding bodyAt
       body-whole h = simp (
         le-ltb maxKeySize (keyLen run at) key,
@@ -71,10 +71,10 @@ module _ (run : List ℕ) (at : ℕ) where
     head-short h = simp (ne-eqb at (length run) more, lt-ltb (length run) (at + recordHeaderSize) h)
 
     module _ (six : at + recordHeaderSize ≤ length run) where
-      pub head-unmarked : marked run at ≡ false → head.Refused Corrupted ≡ headAt run at
+      pub head-unmarked : hasMark run at ≡ false → head.Refused Corrupted ≡ headAt run at
       unfolding headAt
       head-unmarked m = rw (ne-eqb at (length run) more, le-ltb (length run) (at + recordHeaderSize) six, m)
 
-      pub head-marked : marked run at ≡ true → (v w : KindVerdict) → v ≡ verdictOf (getD run (at + 2) 0) → v ≡ w → headBy w run at ≡ headAt run at
+      pub head-marked : hasMark run at ≡ true → (v w : KindVerdict) → v ≡ verdictOf (getD run (at + 2) 0) → v ≡ w → headBy w run at ≡ headAt run at
       unfolding headAt
       head-marked m v w e q = rw (← q, e, ne-eqb at (length run) more, le-ltb (length run) (at + recordHeaderSize) six, m)

@@ -8,7 +8,7 @@ use lib.ListN.{length}
 use denote.Enum.Declared.{tagOf}
 use Rattle.keys.specs.Keys.{compareKeys}
 use Rattle.run.specs.Records.{recordHeaderSize, headAt, keyIn}
-use Rattle.run.specs.Search.{levelAt, soughtWithout, soughtBy, soughtHead, soughtFrom, soughtIn}
+use Rattle.run.specs.Search.{levelAt, soughtWithout, soughtBy, soughtHead, soughtFrom, searchIn}
 use Rattle.run.specs.declared.bound.Bound.{Bound}
 use Rattle.run.specs.declared.bound.Bound.the-variants.{Unbounded, Included, Excluded}
 use Rattle.keys.specs.declared.order.Ordering.{Ordering}
@@ -24,8 +24,8 @@ use Rattle.run.proofs.FitLaws.{Lies, head-lies}
 
 -- a bound that there is
 pub sought-bounded : (run : List ℕ) (bound : Bound) (lower : List ℕ) → (tagOf Bound'.the-type bound ≡ 1) ⊎ (tagOf Bound'.the-type bound ≡ 2)
-    → soughtFrom (suc (length run)) run bound lower 0 ≡ soughtIn run bound lower
-unfolding soughtIn
+    → soughtFrom (suc (length run)) run bound lower 0 ≡ searchIn run bound lower
+unfolding searchIn
 sought-bounded run Unbounded lower t = absurd (⊎-elim (λ w. omega arith) (λ w. omega arith) t)
 sought-bounded run Included lower t = refl
 sought-bounded run Excluded lower t = refl

@@ -20,8 +20,8 @@ abbrev pub recordHeaderSize : ℕ
 recordHeaderSize = 6
 
 -- the first two bytes are the mark
-abbrev pub marked : List ℕ → ℕ → Bool
-marked run at = eqb (getD run at 0) 0x48 && eqb (getD run (at + 1) 0) 0x56
+abbrev pub hasMark : List ℕ → ℕ → Bool
+hasMark run at = eqb (getD run at 0) 0x48 && eqb (getD run (at + 1) 0) 0x56
 
 -- kind 0 is live, 1 deleted, 2 to 127 a later edition, the rest corrupted
 abbrev pub verdictOf : ℕ → KindVerdict
@@ -36,8 +36,8 @@ abbrev pub valueLen : List ℕ → ℕ → ℕ
 valueLen run at = word (getD run (at + 4) 0 ∷ getD run (at + 5) 0 ∷ [])
 
 -- a record whose key starts at one position and whose lengths are these
-abbrev pub placed : Bool → ℕ → ℕ → ℕ → Record
-placed deleted at k v =
+abbrev pub recordWith : Bool → ℕ → ℕ → ℕ → Record
+recordWith deleted at k v =
     record { deleted = deleted; key = at; value = at + k; next = at + k + v }
 
 -- key length, value length, end of run, of a record whose header has `size` bytes
@@ -46,7 +46,7 @@ bodyAt size run at deleted =
     cond (ltb maxKeySize (keyLen run at)) (head.Refused Corrupted)
     (cond (ltb maxValueSize (valueLen run at)) (head.Refused Corrupted)
     (cond (ltb (length run) (at + size + keyLen run at + valueLen run at)) (head.Refused Corrupted)
-    (head.Record (placed deleted (at + size) (keyLen run at) (valueLen run at)))))
+    (head.Record (recordWith deleted (at + size) (keyLen run at) (valueLen run at)))))
 
 -- a good kind has a body
 unfoldable pub headBy : KindVerdict → List ℕ → ℕ → Head
@@ -59,7 +59,7 @@ unfoldable pub headAt : List ℕ → ℕ → Head
 headAt run at =
     cond (eqb at (length run)) head.Nothing
     (cond (ltb (length run) (at + recordHeaderSize)) (head.Refused Corrupted)
-    (cond (marked run at) (headBy (verdictOf (getD run (at + 2) 0)) run at) (head.Refused Corrupted)))
+    (cond (hasMark run at) (headBy (verdictOf (getD run (at + 2) 0)) run at) (head.Refused Corrupted)))
 
 -- a record's key and value
 abbrev pub keyIn : List ℕ → Record → List ℕ

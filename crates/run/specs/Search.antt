@@ -43,7 +43,7 @@ soughtFrom (suc heads) run bound lower at =
     soughtHead (headAt run at) run bound lower at (λ next. soughtFrom heads run bound lower next)
 
 -- with no bound the run's start, unread; else a record has a byte at least, so a run has no more heads than bytes and one
-unfoldable pub soughtIn : List ℕ → Bound → List ℕ → Sought
-soughtIn run Unbounded lower = At 0
-soughtIn run Included lower = soughtFrom (suc (length run)) run Included lower 0
-soughtIn run Excluded lower = soughtFrom (suc (length run)) run Excluded lower 0
+unfoldable pub searchIn : List ℕ → Bound → List ℕ → Sought
+searchIn run Unbounded lower = At 0
+searchIn run Included lower = soughtFrom (suc (length run)) run Included lower 0
+searchIn run Excluded lower = soughtFrom (suc (length run)) run Excluded lower 0

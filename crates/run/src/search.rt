@@ -2,7 +2,7 @@
 ghost use mathlib.Core.Path.{_≡_};
 ghost use Rattle.types.specs.Answers.{sizeOr};
 ghost use Rattle.run.specs.Answers.{soughtTold};
-ghost use Rattle.run.specs.Search.{levelAt, soughtWithout, soughtIn};
+ghost use Rattle.run.specs.Search.{levelAt, soughtWithout, searchIn};
 use crate::bound::Bound;
 use crate::record::Head;
 use crate::record::head_at;
@@ -65,7 +65,7 @@ fn without(head: Head) -> Sought
 
 // The place of the first key that is not below a lower bound.
 pub fn search(run: &[u8], bound: Bound, lower: &[u8]) -> Sought
-    ensures answers { λ r. ⌜ r ≡ soughtIn (now (run .entry)) bound (now (lower .entry)) ⌝ }
+    ensures answers { λ r. ⌜ r ≡ searchIn (now (run .entry)) bound (now (lower .entry)) ⌝ }
 {
     if let Bound::Unbounded = bound {
         return Sought::At(0);

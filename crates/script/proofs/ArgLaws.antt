@@ -12,7 +12,7 @@ use Rattle.digits.specs.declared.number.Number.{Number}
 use Rattle.digits.specs.declared.number.Number.the-variants.{Value, NoNumber}
 use Rattle.digits.specs.declared.number.Word32.{Word32}
 use Rattle.digits.specs.declared.number.Word32.the-variants.{Word, NoWord}
-use Rattle.script.specs.Args.{upTo, pageOf, seedOf, magicOf, flagOf, flagIn, isDash, countOf, countIn, bufferWith}
+use Rattle.script.specs.Args.{upTo, pageArg, seedOf, magicOf, flagOf, flagIn, isDash, decodedCount, countIn, bufferWith}
 use Rattle.script.specs.declared.args.Flag.the-variants.{Is, NoFlag}
 use Rattle.script.specs.declared.args.Page.the-variants as page
 use Rattle.script.specs.declared.args.Seed.the-variants as seed
@@ -29,13 +29,13 @@ module _ {x : Number} where
   pub up-past : (limit n : ℕ) → x ≡ Value n → limit < n → NoNumber ≡ upTo limit x
   up-past limit n e h = rw e (rw (lt-leb n limit h))
 
-  pub page-none : x ≡ NoNumber → page.NoPage ≡ pageOf x
+  pub page-none : x ≡ NoNumber → page.NoPage ≡ pageArg x
   page-none e = rw e
 
-  pub page-within : (n : ℕ) → x ≡ Value n → n ≤ 65535 → page.Number (record { 0 = n }) ≡ pageOf x
+  pub page-within : (n : ℕ) → x ≡ Value n → n ≤ 65535 → page.Number (record { 0 = n }) ≡ pageArg x
   page-within n e h = rw e (rw (le-leb n 65535 h))
 
-  pub page-past : (n : ℕ) → x ≡ Value n → 65535 < n → page.NoPage ≡ pageOf x
+  pub page-past : (n : ℕ) → x ≡ Value n → 65535 < n → page.NoPage ≡ pageArg x
   page-past n e h = rw e (rw (lt-leb n 65535 h))
 
   pub seed-none : x ≡ NoNumber → seed.NoSeed ≡ seedOf x
@@ -94,7 +94,7 @@ module _ (word out : List ℕ) where
   bytes-none h e = rw (h, eq-eqb (length word) 0 e) (refl, refl)
 
   pub bytes-pairs : {d : Decoded} {r : Number} {out′ : List ℕ} → isDash word ≡ false → (length word ≡ 0 → ⊥) → d ≡ decodedOf word (length out)
-      → out′ ≡ bufferAfter d word out → r ≡ countOf d → (r ≡ countIn word (length out)) × (out′ ≡ bufferWith word out)
+      → out′ ≡ bufferAfter d word out → r ≡ decodedCount d → (r ≡ countIn word (length out)) × (out′ ≡ bufferWith word out)
   bytes-pairs h n e b k = rw (h, ne-eqb (length word) 0 n, ← e) (k, b)
 
 -- the same of a word that is equal

@@ -10,7 +10,7 @@ use lib.ListN.{length, take, drop, getD, drop-of-length-le}
 use lib.Seq.{drop-cons, drop-drop}
 use borrow.Author.Tests.{eq-eqb, ne-eqb}
 use Rattle.types.proofs.TestLaws.{le-or-lt}
-use Rattle.script.specs.Words.{before, endFrom, space, wordAt, wordCount}
+use Rattle.script.specs.Words.{before, endFrom, space, nthWord, wordCount}
 
 -- ---- the end of a word or a line
 
@@ -38,13 +38,13 @@ module _ (line : List ℕ) (at r : ℕ) (e : r ≡ min (endFrom line at space) (
       (λ h. let p : length line ≤ r + 1 = omega arith in let q : length line ≤ at + suc b = omega arith in drop-of-length-le line p ∙ sym (drop-drop (suc b) at line ∙ drop-of-length-le line q))
       (le-or-lt (endFrom line at space) (length line))
 
-  pub word-turn : (k i : ℕ) → i < k → wordAt (k - (i + 1)) (drop (r + 1) line) ≡ wordAt (k - i) (drop at line)
-  unfolding wordAt
+  pub word-turn : (k i : ℕ) → i < k → nthWord (k - (i + 1)) (drop (r + 1) line) ≡ nthWord (k - i) (drop at line)
+  unfolding nthWord
   word-turn k i h =
-      let s : k - i ≡ suc (k - (i + 1)) = omega arith in rw s (ap (wordAt (k - (i + 1))) rest-of-line)
+      let s : k - i ≡ suc (k - (i + 1)) = omega arith in rw s (ap (nthWord (k - (i + 1))) rest-of-line)
 
-pub word-found : (line : List ℕ) (at k i : ℕ) → k ≤ i → take (endFrom line at space - at) (drop at line) ≡ wordAt (k - i) (drop at line)
-unfolding wordAt
+pub word-found : (line : List ℕ) (at k i : ℕ) → k ≤ i → take (endFrom line at space - at) (drop at line) ≡ nthWord (k - i) (drop at line)
+unfolding nthWord
 word-found line at k i h =
     let z : k - i ≡ 0 = omega arith in
     let b : endFrom line at space - at ≡ before space (drop at line) = omega arith in

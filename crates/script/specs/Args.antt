@@ -24,9 +24,9 @@ upTo limit (Value n) = cond (leb n limit) (Value n) NoNumber
 upTo limit NoNumber = NoNumber
 
 -- a page is a number of up to 16 bits
-abbrev pub pageOf : Number → Page
-pageOf (Value n) = cond (leb n 65535) (page.Number (record { 0 = n })) page.NoPage
-pageOf NoNumber = page.NoPage
+abbrev pub pageArg : Number → Page
+pageArg (Value n) = cond (leb n 65535) (page.Number (record { 0 = n })) page.NoPage
+pageArg NoNumber = page.NoPage
 
 -- a seed is a number of up to 32 bits
 abbrev pub seedOf : Number → Seed
@@ -51,14 +51,14 @@ abbrev pub isDash : List ℕ → Bool
 isDash word = cond (eqb (length word) 1) (eqb (getD word 0 0) 45) false
 
 -- how many bytes were decoded
-abbrev pub countOf : Decoded → Number
-countOf (Bytes n) = Value n
-countOf Bad = NoNumber
-countOf NoRoom = NoNumber
+abbrev pub decodedCount : Decoded → Number
+decodedCount (Bytes n) = Value n
+decodedCount Bad = NoNumber
+decodedCount NoRoom = NoNumber
 
 -- how many bytes a word stands for: pairs of digits that a room of n bytes takes, or a dash
 abbrev pub countIn : List ℕ → ℕ → Number
-countIn word n = cond (isDash word) (Value 0) (cond (eqb (length word) 0) NoNumber (countOf (decodedOf word n)))
+countIn word n = cond (isDash word) (Value 0) (cond (eqb (length word) 0) NoNumber (decodedCount (decodedOf word n)))
 
 -- the buffer afterwards: the bytes at its start, or all as it was
 abbrev pub bufferWith : List ℕ → List ℕ → List ℕ

@@ -19,9 +19,9 @@ abbrev pub space : ℕ
 space = 32
 
 -- the k-th word of a line, counted from 0; past the last word there is nothing
-unfoldable pub wordAt : ℕ → List ℕ → List ℕ
-wordAt zero line = take (before space line) line
-wordAt (suc k) line = wordAt k (drop (suc (before space line)) line)
+unfoldable pub nthWord : ℕ → List ℕ → List ℕ
+nthWord zero line = take (before space line) line
+nthWord (suc k) line = nthWord k (drop (suc (before space line)) line)
 
 -- how many words a line has: one more than it has spaces
 unfoldable pub wordCount : List ℕ → ℕ

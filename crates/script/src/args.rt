@@ -1,10 +1,10 @@
 // The arguments of a call: words of its line, by their place.
 ghost use mathlib.Core.Path.{_≡_};
 ghost use lib.ListN.{length};
-ghost use Rattle.script.specs.Words.{wordAt};
-ghost use Rattle.script.specs.Args.{upTo, pageOf, seedOf, magicOf, flagOf, flagIn, isDash, countOf, countIn, bufferWith};
+ghost use Rattle.script.specs.Words.{nthWord};
+ghost use Rattle.script.specs.Args.{upTo, pageArg, seedOf, magicOf, flagOf, flagIn, isDash, decodedCount, countIn, bufferWith};
 ghost use Rattle.digits.specs.Numbers.{decimalIn, word32In};
-use crate::words::word_at;
+use crate::words::nth_word;
 use digits::hex::Decoded;
 use digits::hex::decode;
 use digits::number::Number;
@@ -29,14 +29,14 @@ pub enum Flag {
 }
 
 pub fn number_at(line: &[u8], k: usize) -> Number
-    ensures answers { λ r. ⌜ r ≡ decimalIn (wordAt k (now (line .entry))) ⌝ }
+    ensures answers { λ r. ⌜ r ≡ decimalIn (nthWord k (now (line .entry))) ⌝ }
 {
-    decimal_in(word_at(line, k))
+    decimal_in(nth_word(line, k))
 }
 
 // A number up to a limit.
 pub fn number_to(line: &[u8], k: usize, limit: usize) -> Number
-    ensures answers { λ r. ⌜ r ≡ upTo limit (decimalIn (wordAt k (now (line .entry)))) ⌝ }
+    ensures answers { λ r. ⌜ r ≡ upTo limit (decimalIn (nthWord k (now (line .entry)))) ⌝ }
 {
     let Number::Value(n) = number_at(line, k) else {
         return Number::NoNumber;
@@ -49,7 +49,7 @@ pub fn number_to(line: &[u8], k: usize, limit: usize) -> Number
 }
 
 pub fn page_at(line: &[u8], k: usize) -> Page
-    ensures answers { λ r. ⌜ r ≡ pageOf (decimalIn (wordAt k (now (line .entry)))) ⌝ }
+    ensures answers { λ r. ⌜ r ≡ pageArg (decimalIn (nthWord k (now (line .entry)))) ⌝ }
 {
     let Number::Value(n) = number_at(line, k) else {
         return Page::NoPage;
@@ -62,7 +62,7 @@ pub fn page_at(line: &[u8], k: usize) -> Page
 }
 
 pub fn seed_at(line: &[u8], k: usize) -> Seed
-    ensures answers { λ r. ⌜ r ≡ seedOf (decimalIn (wordAt k (now (line .entry)))) ⌝ }
+    ensures answers { λ r. ⌜ r ≡ seedOf (decimalIn (nthWord k (now (line .entry)))) ⌝ }
 {
     let Number::Value(n) = number_at(line, k) else {
         return Seed::NoSeed;
@@ -76,14 +76,14 @@ pub fn seed_at(line: &[u8], k: usize) -> Seed
 
 // Eight digits in hex.
 pub fn word32_at(line: &[u8], k: usize) -> Word32
-    ensures answers { λ r. ⌜ r ≡ word32In (wordAt k (now (line .entry))) ⌝ }
+    ensures answers { λ r. ⌜ r ≡ word32In (nthWord k (now (line .entry))) ⌝ }
 {
-    word32_in(word_at(line, k))
+    word32_in(nth_word(line, k))
 }
 
 // One of the two magics that scripts have.
 pub fn magic_at(line: &[u8], k: usize) -> Word32
-    ensures answers { λ r. ⌜ r ≡ magicOf (word32In (wordAt k (now (line .entry)))) ⌝ }
+    ensures answers { λ r. ⌜ r ≡ magicOf (word32In (nthWord k (now (line .entry)))) ⌝ }
 {
     let Word32::Word(magic) = word32_at(line, k) else {
         return Word32::NoWord;
@@ -118,9 +118,9 @@ fn flag_in(word: &[u8]) -> Flag
 }
 
 pub fn flag_at(line: &[u8], k: usize) -> Flag
-    ensures answers { λ r. ⌜ r ≡ flagIn (wordAt k (now (line .entry))) ⌝ }
+    ensures answers { λ r. ⌜ r ≡ flagIn (nthWord k (now (line .entry))) ⌝ }
 {
-    flag_in(word_at(line, k))
+    flag_in(nth_word(line, k))
 }
 
 // Whether a word is the one that stands for no bytes.
@@ -133,8 +133,8 @@ fn is_dash(word: &[u8]) -> bool
     word[0] == b'-'
 }
 
-fn count_of(decoded: Decoded) -> Number
-    ensures answers { λ r. ⌜ r ≡ countOf decoded ⌝ }
+fn decoded_count(decoded: Decoded) -> Number
+    ensures answers { λ r. ⌜ r ≡ decodedCount decoded ⌝ }
 {
     match decoded {
         Decoded::Bytes(n) => Number::Value(n),
@@ -153,13 +153,13 @@ fn bytes_in(word: &[u8], buffer: &mut [u8]) -> Number
     if word.len() == 0 {
         return Number::NoNumber;
     }
-    count_of(decode(word, buffer))
+    decoded_count(decode(word, buffer))
 }
 
 // Bytes in hex, or `-` for none, into the buffer's start: how many there are.
 pub fn bytes_at(line: &[u8], k: usize, buffer: &mut [u8]) -> Number
-    ensures answers { λ r. ⌜ r ≡ countIn (wordAt k (now (line .entry))) (length (now (buffer .entry))) ⌝ }
-    ensures bytes { λ _. ⌜ now (buffer .exit) ≡ bufferWith (wordAt k (now (line .entry))) (now (buffer .entry)) ⌝ }
+    ensures answers { λ r. ⌜ r ≡ countIn (nthWord k (now (line .entry))) (length (now (buffer .entry))) ⌝ }
+    ensures bytes { λ _. ⌜ now (buffer .exit) ≡ bufferWith (nthWord k (now (line .entry))) (now (buffer .entry)) ⌝ }
 {
-    bytes_in(word_at(line, k), buffer)
+    bytes_in(nth_word(line, k), buffer)
 }

@@ -1,9 +1,9 @@
 // Lines and words: a line ends at a newline, a word at a space.
 ghost use mathlib.Core.Path.{_≡_};
-ghost use Rattle.script.specs.Words.{endFrom, wordAt, wordCount};
+ghost use Rattle.script.specs.Words.{endFrom, nthWord, wordCount};
 use slices::part::part_of;
-use types::num::least;
-use types::num::less;
+use types::num::min;
+use types::num::minus;
 
 const SPACE: u8 = b' ';
 
@@ -22,14 +22,14 @@ pub fn end_from(text: &[u8], from: usize, byte: u8) -> usize
 }
 
 // The k-th word of a line, counted from 0, and nothing past the last.
-pub fn word_at(line: &[u8], k: usize) -> &[u8]
-    ensures answers { λ r. ⌜ now r ≡ wordAt k (now (line .entry)) ⌝ }
+pub fn nth_word(line: &[u8], k: usize) -> &[u8]
+    ensures answers { λ r. ⌜ now r ≡ nthWord k (now (line .entry)) ⌝ }
 {
     let mut at = 0;
     for _ in 0..k {
-        at = least(end_from(line, at, SPACE), line.len()) + 1;
+        at = min(end_from(line, at, SPACE), line.len()) + 1;
     }
-    part_of(line, at, less(end_from(line, at, SPACE), at))
+    part_of(line, at, minus(end_from(line, at, SPACE), at))
 }
 
 // How many words a line has: one more than it has spaces.

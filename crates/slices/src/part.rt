@@ -1,6 +1,6 @@
 // Parts of lent bytes: any part can be asked for, and bytes are put over a part as far as they fit.
-use types::num::least;
-use types::num::less;
+use types::num::min;
+use types::num::minus;
 ghost use mathlib.Core.Path.{_≡_};
 ghost use lib.ListN.{length, take, drop};
 ghost use Rattle.slices.specs.Parts.{partTo};
@@ -10,8 +10,8 @@ ghost use Rattle.slices.specs.Patch.{over, blank};
 pub fn part_of(bytes: &[u8], from: usize, count: usize) -> &[u8]
     ensures answers { λ r. ⌜ now r ≡ take count (drop from (now (bytes .entry))) ⌝ }
 {
-    let start = least(from, bytes.len());
-    let end = start + least(count, less(bytes.len(), start));
+    let start = min(from, bytes.len());
+    let end = start + min(count, minus(bytes.len(), start));
     &bytes[start..end]
 }
 
@@ -19,14 +19,14 @@ pub fn part_of(bytes: &[u8], from: usize, count: usize) -> &[u8]
 pub fn part_to(bytes: &[u8], from: usize, to: usize) -> &[u8]
     ensures answers { λ r. ⌜ now r ≡ partTo (now (bytes .entry)) from to ⌝ }
 {
-    part_of(bytes, from, less(to, from))
+    part_of(bytes, from, minus(to, from))
 }
 
 // Puts the bytes over the part's start, as far as they fit.
 pub fn put(part: &mut [u8], bytes: &[u8])
     ensures bytes { λ _. ⌜ now (part .exit) ≡ over (now (bytes .entry)) (now (part .entry)) ⌝ }
 {
-    let n = least(bytes.len(), part.len());
+    let n = min(bytes.len(), part.len());
     for i in 0..n {
         part[i] = bytes[i];
     }

@@ -4,7 +4,7 @@ use mathlib.Core.Bool.{Bool, true, false, cond}
 use mathlib.Core.List.{List, [], _∷_}
 use Prim.Native.Nat.{ℕ, _≤_}
 use lib.ListN.{length, getD, List·getD-eq-default}
-use Rattle.utf8.specs.Characters.{lengthOf}
+use Rattle.utf8.specs.Characters.{characterLength}
 
 pub past-end : (i : ℕ) (xs : List ℕ) → length xs ≤ i → 0 ≡ getD xs i 0
 past-end i xs h = sym (List·getD-eq-default xs 0 h)
@@ -28,31 +28,31 @@ module _ (two three four : Bool) where
 -- ---- worked examples
 
 -- ü, the euro sign, and the last character
-pub umlaut : lengthOf (195 ∷ 188 ∷ 108 ∷ []) ≡ 2
+pub umlaut : characterLength (195 ∷ 188 ∷ 108 ∷ []) ≡ 2
 umlaut = refl
 
-pub euro : lengthOf (226 ∷ 130 ∷ 172 ∷ []) ≡ 3
+pub euro : characterLength (226 ∷ 130 ∷ 172 ∷ []) ≡ 3
 euro = refl
 
-pub last-character : lengthOf (244 ∷ 143 ∷ 191 ∷ 191 ∷ []) ≡ 4
+pub last-character : characterLength (244 ∷ 143 ∷ 191 ∷ 191 ∷ []) ≡ 4
 last-character = refl
 
 -- the last control character, and the first character behind it
-pub last-control : lengthOf (194 ∷ 159 ∷ []) ≡ 0
+pub last-control : characterLength (194 ∷ 159 ∷ []) ≡ 0
 last-control = refl
 
-pub first-plain : lengthOf (194 ∷ 160 ∷ []) ≡ 2
+pub first-plain : characterLength (194 ∷ 160 ∷ []) ≡ 2
 first-plain = refl
 
 -- a slash in three bytes, a surrogate, U+110000, and a euro sign cut short
-pub overlong : lengthOf (224 ∷ 128 ∷ 175 ∷ []) ≡ 0
+pub overlong : characterLength (224 ∷ 128 ∷ 175 ∷ []) ≡ 0
 overlong = refl
 
-pub surrogate : lengthOf (237 ∷ 160 ∷ 128 ∷ []) ≡ 0
+pub surrogate : characterLength (237 ∷ 160 ∷ 128 ∷ []) ≡ 0
 surrogate = refl
 
-pub past-the-last : lengthOf (244 ∷ 144 ∷ 128 ∷ 128 ∷ []) ≡ 0
+pub past-the-last : characterLength (244 ∷ 144 ∷ 128 ∷ 128 ∷ []) ≡ 0
 past-the-last = refl
 
-pub cut-short : lengthOf (226 ∷ 130 ∷ []) ≡ 0
+pub cut-short : characterLength (226 ∷ 130 ∷ []) ≡ 0
 cut-short = refl

@@ -1,7 +1,7 @@
 // Whether bytes start with a character that can be printed as it is: a well-formed one above U+009F, so no control character.
 ghost use mathlib.Core.Path.{_≡_};
 ghost use lib.ListN.{getD};
-ghost use Rattle.utf8.specs.Characters.{twoFine, threeFine, fourFine, lengthIn, lengthOf};
+ghost use Rattle.utf8.specs.Characters.{twoFine, threeFine, fourFine, lengthIn, characterLength};
 
 // The byte at an index, or 0 past the end, which is no byte of such a character.
 fn byte_at(bytes: &[u8], i: usize) -> u8
@@ -51,8 +51,8 @@ fn length_in(a: u8, b: u8, c: u8, d: u8) -> usize
 }
 
 // How many bytes the character has that stands at the start, and 0 where none does.
-pub fn length_of(bytes: &[u8]) -> usize
-    ensures answers { λ r. ⌜ r ≡ lengthOf (now (bytes .entry)) ⌝ }
+pub fn character_length(bytes: &[u8]) -> usize
+    ensures answers { λ r. ⌜ r ≡ characterLength (now (bytes .entry)) ⌝ }
 {
     length_in(
         byte_at(bytes, 0),

@@ -11,10 +11,10 @@ use Rattle.types.specs.declared.refusal.Refusal.the-variants.{OutOfRange, BadFl
 use Rattle.types.specs.declared.refusal.Verdict.{Verdict}
 use Rattle.types.specs.declared.refusal.Verdict.the-variants.{Fine, Refused}
 use Rattle.types.proofs.TestLaws.{both-true, leb-iff}
-use Rattle.flash.specs.Geometry.{flashFine, flashVerdict, hasPage}
-use Rattle.page.specs.Headers.{headerFine, headerVerdict}
+use Rattle.flash.specs.Geometry.{flashFine, flashCheck, hasPage}
+use Rattle.page.specs.Headers.{headerFine, headerCheck}
 use Rattle.writer.specs.States.{firstChunk, mostPending, inRange}
-use Rattle.writer.specs.Verdicts.{firstOf, stateVerdict, pageVerdict, lengthVerdict, writerVerdict, headingVerdict, openVerdict}
+use Rattle.writer.specs.Checks.{firstOf, stateCheck, pageCheck, lengthCheck, writerCheck, headingCheck, openCheck}
 use Rattle.writer.specs.declared.page_writer.PageWriter.{PageWriter}
 
 -- ---- one check after another
@@ -27,21 +27,21 @@ then-cond : (s t : Bool) (why other : Refusal) (v : Verdict)
     → firstOf (cond s Fine (Refused why)) (firstOf (cond t Fine (Refused other)) v) ≡ cond s (cond t v (Refused other)) (Refused why)
 then-cond s t why other v = first-cond s why _ ∙ ap (λ (x : Verdict). cond s x (Refused why)) (first-cond t other v)
 
-pub writer-first : (n : ℕ) (w : PageWriter) → firstOf (flashVerdict n) (firstOf (stateVerdict w) (pageVerdict n (w .page .0))) ≡ writerVerdict n w
-unfolding writerVerdict
-writer-first n w = then-cond (flashFine n) (inRange w) BadFlash BadState (pageVerdict n (w .page .0))
+pub writer-first : (n : ℕ) (w : PageWriter) → firstOf (flashCheck n) (firstOf (stateCheck w) (pageCheck n (w .page .0))) ≡ writerCheck n w
+unfolding writerCheck
+writer-first n w = then-cond (flashFine n) (inRange w) BadFlash BadState (pageCheck n (w .page .0))
 
 pub heading-first : (n : ℕ) (w : PageWriter) (m : ℕ)
-    → firstOf (flashVerdict n) (firstOf (lengthVerdict m (w .h)) (firstOf (stateVerdict w) (pageVerdict n (w .page .0)))) ≡ headingVerdict n w m
-unfolding headingVerdict
+    → firstOf (flashCheck n) (firstOf (lengthCheck m (w .h)) (firstOf (stateCheck w) (pageCheck n (w .page .0)))) ≡ headingCheck n w m
+unfolding headingCheck
 heading-first n w m =
     then-cond (flashFine n) (eqb m (w .h) && headerFine m) BadFlash BadHeader _
     ∙ ap (λ (x : Verdict). cond (flashFine n) (cond (eqb m (w .h) && headerFine m) x (Refused BadHeader)) (Refused BadFlash))
-    (first-cond (inRange w) BadState (pageVerdict n (w .page .0)))
+    (first-cond (inRange w) BadState (pageCheck n (w .page .0)))
 
-pub open-first : (n p h : ℕ) → firstOf (flashVerdict n) (firstOf (headerVerdict h) (pageVerdict n p)) ≡ openVerdict n p h
-unfolding openVerdict
-open-first n p h = then-cond (flashFine n) (headerFine h) BadFlash BadHeader (pageVerdict n p)
+pub open-first : (n p h : ℕ) → firstOf (flashCheck n) (firstOf (headerCheck h) (pageCheck n p)) ≡ openCheck n p h
+unfolding openCheck
+open-first n p h = then-cond (flashFine n) (headerFine h) BadFlash BadHeader (pageCheck n p)
 
 -- ---- what was let through
 
@@ -49,14 +49,14 @@ cond-fine : (t : Bool) (v : Verdict) (why : Refusal) → cond t v (Refused why) 
 cond-fine true v why e = (refl, e)
 cond-fine false v why e = let z : _≡_ {A = ℕ} 0 1 = cc in absurd (omega arith)
 
-pub header-true : (h : ℕ) → headerVerdict h ≡ Fine → headerFine h ≡ true
+pub header-true : (h : ℕ) → headerCheck h ≡ Fine → headerFine h ≡ true
 header-true h e = cond-fine (headerFine h) Fine BadHeader e .0
 
 cond-refused : (t : Bool) (why other : Refusal) → cond t Fine (Refused why) ≡ Refused other → t ≡ false
 cond-refused true why other e = let z : _≡_ {A = ℕ} 0 1 = cc in absurd (omega arith)
 cond-refused false why other e = refl
 
-pub header-false : (h : ℕ) (why : Refusal) → headerVerdict h ≡ Refused why → headerFine h ≡ false
+pub header-false : (h : ℕ) (why : Refusal) → headerCheck h ≡ Refused why → headerFine h ≡ false
 header-false h why e = cond-refused (headerFine h) BadHeader why e
 
 pub record Passed (n : ℕ) (w : PageWriter) : Type 0 where
@@ -64,15 +64,15 @@ pub record Passed (n : ℕ) (w : PageWriter) : Type 0 where
   pub state : inRange w ≡ true
   pub place : hasPage n (w .page .0) ≡ true
 
-pub writer-passed : (n : ℕ) (w : PageWriter) → writerVerdict n w ≡ Fine → Passed n w
-unfolding writerVerdict
+pub writer-passed : (n : ℕ) (w : PageWriter) → writerCheck n w ≡ Fine → Passed n w
+unfolding writerCheck
 writer-passed n w e =
     let a = cond-fine (flashFine n) _ BadFlash e in
     let b = cond-fine (inRange w) _ BadState (a .1) in
     record { flash = a .0; state = b .0; place = cond-fine (hasPage n (w .page .0)) Fine OutOfRange (b .1) .0 }
 
-pub heading-passed : (n : ℕ) (w : PageWriter) (m : ℕ) → headingVerdict n w m ≡ Fine → Passed n w × ((m ≡ w .h) × (headerFine m ≡ true))
-unfolding headingVerdict
+pub heading-passed : (n : ℕ) (w : PageWriter) (m : ℕ) → headingCheck n w m ≡ Fine → Passed n w × ((m ≡ w .h) × (headerFine m ≡ true))
+unfolding headingCheck
 heading-passed n w m e =
     let a = cond-fine (flashFine n) _ BadFlash e in
     let b = cond-fine (eqb m (w .h) && headerFine m) _ BadHeader (a .1) in
@@ -82,8 +82,8 @@ heading-passed n w m e =
       (eqb-true m (w .h) (l .0), l .1),
     )
 
-pub open-passed : (n p h : ℕ) → openVerdict n p h ≡ Fine → (flashFine n ≡ true) × ((headerFine h ≡ true) × (hasPage n p ≡ true))
-unfolding openVerdict
+pub open-passed : (n p h : ℕ) → openCheck n p h ≡ Fine → (flashFine n ≡ true) × ((headerFine h ≡ true) × (hasPage n p ≡ true))
+unfolding openCheck
 open-passed n p h e =
     let a = cond-fine (flashFine n) _ BadFlash e in
     let b = cond-fine (headerFine h) _ BadHeader (a .1) in

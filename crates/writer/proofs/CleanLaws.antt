@@ -35,7 +35,7 @@ use Rattle.writer.specs.Headings.{headerOps, headed}
 use Rattle.writer.specs.Landings.{Erased, Lands}
 use Rattle.writer.specs.Openings.{openedAfter, appendedAt, appended}
 use Rattle.writer.specs.States.{firstChunk, fresh}
-use Rattle.writer.specs.Verdicts.{headingVerdict, openVerdict}
+use Rattle.writer.specs.Checks.{headingCheck, openCheck}
 use Rattle.writer.specs.Writes.{takes, grown, isFull, closeOps, closed, payloadOps, takingOps, takenOf, writeOps, written}
 use Rattle.types.specs.declared.answers.Outcome.the-variants.{Done}
 use Rattle.writer.specs.declared.page_writer.PageWriter.{PageWriter}
@@ -76,7 +76,7 @@ resume-clean e page h o p false short q = fresh-clean e page h pageSize p (λ i 
 pub append-clean : (e : ℕ) (xs : List ℕ) (page : PageID) (h : ℕ) (w : PageWriter) (left : ℕ) → appended e xs page h w left .answer ≡ Done
     → Clean e (appended e xs page h w left .writer) (pageOf (page .0) xs)
 unfolding appended
-append-clean e xs page h w left = by (openVerdict (length xs) (page .0) h) (walkEnd (pageOf (page .0) xs) (firstChunk h))
+append-clean e xs page h w left = by (openCheck (length xs) (page .0) h) (walkEnd (pageOf (page .0) xs) (firstChunk h))
   where
     by : (v : Verdict) (end : Ending) → openedAfter v w left (appendedAt e (pageOf (page .0) xs) page h w left end) .answer ≡ Done
         → Clean e (openedAfter v w left (appendedAt e (pageOf (page .0) xs) page h w left end) .writer) (pageOf (page .0) xs)
@@ -176,7 +176,7 @@ write-clean e w bytes p s whole c =
 
 -- ---- write_header
 
-pub heading-clean : (n e : ℕ) (w : PageWriter) (magic : ℕ) (header p : List ℕ) → headingVerdict n w (length header) ≡ verdict.Fine → Clean e w p
+pub heading-clean : (n e : ℕ) (w : PageWriter) (magic : ℕ) (header p : List ℕ) → headingCheck n w (length header) ≡ verdict.Fine → Clean e w p
     → Clean e (headed w) (applied 0 (headerOps e w magic header) p)
 unfolding headerOps
 heading-clean n e w magic header p v c =

@@ -16,8 +16,8 @@ use Rattle.flash.proofs.OperationLaws.{Ran}
 use Rattle.page.specs.Chunks.{chunkHeader}
 use Rattle.writer.specs.Commits.{inGroup, groupAt, lastGroup, sealOp, chunkOps, nextChunk}
 use Rattle.writer.specs.Duties.{commitDuty}
-use Rattle.writer.specs.Outcomes.{came}
-use Rattle.writer.specs.Verdicts.{writerVerdict}
+use Rattle.writer.specs.Outcomes.{endedBy}
+use Rattle.writer.specs.Checks.{writerCheck}
 use Rattle.writer.specs.declared.answers.Ended.{Ended}
 use Rattle.types.specs.declared.answers.Outcome.the-variants as outcome
 use Rattle.writer.specs.declared.page_writer.PageWriter.{PageWriter}
@@ -58,13 +58,13 @@ chunk-ran e left due w head v₀ v₁ v₂ v₃ x y z lie h p q r =
 
 -- ---- commit
 
-module _ (e : ℕ) (w : PageWriter) (left : ℕ) (xs : List ℕ) (fine : writerVerdict (length xs) w ≡ Fine) where
+module _ (e : ℕ) (w : PageWriter) (left : ℕ) (xs : List ℕ) (fine : writerCheck (length xs) w ≡ Fine) where
   pub commit-none : w .pending ≡ 0 → Ends (commitDuty e xs w) w left xs (record { answer = outcome.Done; writer = w; left = left }) xs
-  commit-none z = rw (eq-eqb (w .pending) 0 z) (ends-none (writerVerdict (length xs) w) w left xs fine)
+  commit-none z = rw (eq-eqb (w .pending) 0 z) (ends-none (writerCheck (length xs) w) w left xs fine)
 
   pub commit-some : (r : Spent) (ys : List ℕ) (next : PageWriter) (out : Ended) → (w .pending ≡ 0 → ⊥)
-      → Ran (pageStart (w .page .0)) left (cond true (chunkOps e w) []) xs r ys → next ≡ nextChunk w → out ≡ came r next w
+      → Ran (pageStart (w .page .0)) left (cond true (chunkOps e w) []) xs r ys → next ≡ nextChunk w → out ≡ endedBy r next w
       → Ends (commitDuty e xs w) w left xs out ys
   commit-some r ys next out n ran f o =
       rw (ne-eqb (w .pending) 0 n, o, f)
-      (ends-ran (record { verdict = writerVerdict (length xs) w; ops = chunkOps e w; next = nextChunk w }) w left xs r ys fine ran)
+      (ends-ran (record { verdict = writerCheck (length xs) w; ops = chunkOps e w; next = nextChunk w }) w left xs r ys fine ran)

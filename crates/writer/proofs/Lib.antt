@@ -9,6 +9,6 @@ pub mod OutcomeLaws
 pub mod PlaceLaws
 pub mod PlacedLaws
 pub mod RangeLaws
-pub mod StarredClaims
+pub mod ReferenceCasesHold
 pub mod StoreLaws
 pub mod WriteLaws

@@ -10,7 +10,7 @@ use Rattle.flash.specs.Geometry.{pageStart}
 use Rattle.flash.specs.declared.ops.Spent.{Spent}
 use Rattle.flash.proofs.OperationLaws.{Ran, ran-none}
 use Rattle.writer.specs.Duties.{Duty, handsBack, leaves}
-use Rattle.writer.specs.Outcomes.{came}
+use Rattle.writer.specs.Outcomes.{endedBy}
 use Rattle.writer.specs.declared.answers.Ended.{Ended}
 use Rattle.types.specs.declared.answers.Outcome.the-variants as outcome
 use Rattle.writer.specs.declared.page_writer.PageWriter.{PageWriter}
@@ -23,8 +23,8 @@ module _ (d : Duty) (w : PageWriter) (left : ℕ) (xs : List ℕ) where
   pub ends-refused : (why : Refusal) → d .verdict ≡ Refused why → Ends d w left xs (record { answer = outcome.Refused why; writer = w; left = left }) xs
   ends-refused why e = (rw e, rw e)
 
-  pub ends-ran : (r : Spent) (ys : List ℕ) → d .verdict ≡ Fine → Ran (pageStart (w .page .0)) left (d .ops) xs r ys → Ends d w left xs (came r (d .next) w) ys
-  ends-ran r ys e ran = (ap (λ (s : Spent). came s (d .next) w) (ran .0) ∙ rw e, ran .1 ∙ rw e)
+  pub ends-ran : (r : Spent) (ys : List ℕ) → d .verdict ≡ Fine → Ran (pageStart (w .page .0)) left (d .ops) xs r ys → Ends d w left xs (endedBy r (d .next) w) ys
+  ends-ran r ys e ran = (ap (λ (s : Spent). endedBy s (d .next) w) (ran .0) ∙ rw e, ran .1 ∙ rw e)
 
 -- no operation is owed
 pub ends-none : (v : Verdict) (w : PageWriter) (left : ℕ) (xs : List ℕ) → v ≡ Fine

@@ -20,7 +20,7 @@ use Rattle.page.proofs.PutLaws.{length-chunkHeader, length-pageHeader}
 use Rattle.writer.specs.Commits.{groupAt, eraseOps, restOps, sealOp, chunkOps, commitOps}
 use Rattle.writer.specs.Headings.{headerOps}
 use Rattle.writer.specs.States.{firstChunk, mostPending}
-use Rattle.writer.specs.Verdicts.{headingVerdict}
+use Rattle.writer.specs.Checks.{headingCheck}
 use Rattle.writer.specs.Writes.{takes, grown, isFull, closeOps, payloadOps, takingOps, takenOf, writeOps}
 use Rattle.writer.specs.declared.page_writer.PageWriter.{PageWriter}
 use Rattle.writer.proofs.CheckLaws.{Sound, heading-passed, sound}
@@ -96,7 +96,7 @@ write-placed e w bytes s four =
     (eq-or-ne (takes (length bytes) w) 0)
 
 -- the page header ends where the chunks start
-pub header-placed : (n : ℕ) (e : ℕ) (w : PageWriter) (magic : ℕ) (header : List ℕ) → headingVerdict n w (length header) ≡ Fine
+pub header-placed : (n : ℕ) (e : ℕ) (w : PageWriter) (magic : ℕ) (header : List ℕ) → headingCheck n w (length header) ≡ Fine
     → (bytes : List ℕ) × ((headerOps e w magic header ≡ eraseOps e w ++ (store 0 bytes ∷ [])) × (length bytes ≡ firstChunk (w .h)))
 unfolding headerOps
 header-placed n e w magic header v =

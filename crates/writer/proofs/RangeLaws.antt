@@ -12,7 +12,7 @@ use Rattle.types.specs.declared.page_id.PageID.{PageID}
 use Rattle.types.specs.declared.refusal.Verdict.{Verdict}
 use Rattle.types.specs.declared.refusal.Verdict.the-variants as verdict
 use Rattle.types.proofs.TestLaws.{decided, eq-or-ne}
-use Rattle.flash.specs.Geometry.{flashFine, hasPage, pageCount, pageOf}
+use Rattle.flash.specs.Geometry.{flashFine, hasPage, wholePages, pageOf}
 use Rattle.flash.specs.Operations.{spent}
 use Rattle.flash.proofs.GeometryLaws.{fine-whole}
 use Rattle.page.specs.Headers.{headerFine}
@@ -26,7 +26,7 @@ use Rattle.writer.specs.Headings.{headed}
 use Rattle.writer.specs.Openings.{openAs, openedAfter, opened, resumeAt, appendedAt, appended}
 use Rattle.writer.specs.Outcomes.{ended, wrote}
 use Rattle.writer.specs.States.{firstChunk, mostPending, inRange, fresh, newWriter}
-use Rattle.writer.specs.Verdicts.{openVerdict}
+use Rattle.writer.specs.Checks.{openCheck}
 use Rattle.writer.specs.Writes.{takes, grown, isFull, closed, takenOf, written}
 use Rattle.writer.specs.declared.answers.Opened.{Opened}
 use Rattle.types.specs.declared.answers.Outcome.the-variants.{Done, Refused}
@@ -133,23 +133,23 @@ unfolding inRange
 new-range = refl
 
 page-low : (n p : ℕ) → flashFine n ≡ true → hasPage n p ≡ true → p < maxPageCount
-page-low n p f t = omega (arith, ltb-true p (pageCount n) t, fine-whole n f)
+page-low n p f t = omega (arith, ltb-true p (wholePages n) t, fine-whole n f)
 
-open-fresh : (n : ℕ) (page : PageID) (h o : ℕ) (armed : Bool) → openVerdict n (page .0) h ≡ verdict.Fine → o % align ≡ 0 → firstChunk h ≤ o → o ≤ pageSize
+open-fresh : (n : ℕ) (page : PageID) (h o : ℕ) (armed : Bool) → openCheck n (page .0) h ≡ verdict.Fine → o % align ≡ 0 → firstChunk h ≤ o → o ≤ pageSize
     → inRange (fresh armed page h o) ≡ true
 open-fresh n page h o armed e a b c =
     let p = open-passed n (page .0) h e in
     fresh-range armed page h o (p .1 .0) (page-low n (page .0) (p .0) (p .1 .1)) a b c
 
 -- the first chunk's place is one to go on at
-first-place : (n p h : ℕ) → openVerdict n p h ≡ verdict.Fine → (firstChunk h % align ≡ 0) × (firstChunk h ≤ pageSize)
+first-place : (n p h : ℕ) → openCheck n p h ≡ verdict.Fine → (firstChunk h % align ≡ 0) × (firstChunk h ≤ pageSize)
 first-place n p h e = let f = header-facts h (open-passed n p h e .1 .0) in (omega arith, omega arith)
 
 pub open-range : (xs : List ℕ) (page : PageID) (h : ℕ) (w : PageWriter) (left : ℕ) → opened xs page h w left .answer ≡ Done → inRange (opened xs page h w left .writer) ≡ true
 unfolding opened
-open-range xs page h w left = by (openVerdict (length xs) (page .0) h) refl
+open-range xs page h w left = by (openCheck (length xs) (page .0) h) refl
   where
-    by : (v : Verdict) → openVerdict (length xs) (page .0) h ≡ v → openedAfter v w left (openAs (fresh true page h (firstChunk h)) left) .answer ≡ Done
+    by : (v : Verdict) → openCheck (length xs) (page .0) h ≡ v → openedAfter v w left (openAs (fresh true page h (firstChunk h)) left) .answer ≡ Done
         → inRange (openedAfter v w left (openAs (fresh true page h (firstChunk h)) left) .writer) ≡ true
     by (verdict.Refused why) e a = let z : _≡_ {A = ℕ} 0 1 = cc in absurd (omega arith)
     by verdict.Fine e a = let f = first-place (length xs) (page .0) h e in open-fresh (length xs) page h (firstChunk h) true e (f .0) (omega arith) (f .1)
@@ -166,9 +166,9 @@ resume-place e h o bytes a b c = by (allErased e (drop o bytes))
 pub append-range : (e : ℕ) (xs : List ℕ) (page : PageID) (h : ℕ) (w : PageWriter) (left : ℕ) → appended e xs page h w left .answer ≡ Done
     → inRange (appended e xs page h w left .writer) ≡ true
 unfolding appended
-append-range e xs page h w left = by (openVerdict (length xs) (page .0) h) refl (walkEnd (pageOf (page .0) xs) (firstChunk h)) refl
+append-range e xs page h w left = by (openCheck (length xs) (page .0) h) refl (walkEnd (pageOf (page .0) xs) (firstChunk h)) refl
   where
-    by : (v : Verdict) → openVerdict (length xs) (page .0) h ≡ v → (end : Ending) → walkEnd (pageOf (page .0) xs) (firstChunk h) ≡ end
+    by : (v : Verdict) → openCheck (length xs) (page .0) h ≡ v → (end : Ending) → walkEnd (pageOf (page .0) xs) (firstChunk h) ≡ end
         → openedAfter v w left (appendedAt e (pageOf (page .0) xs) page h w left end) .answer ≡ Done
         → inRange (openedAfter v w left (appendedAt e (pageOf (page .0) xs) page h w left end) .writer) ≡ true
     by (verdict.Refused why) p end q a = let z : _≡_ {A = ℕ} 0 1 = cc in absurd (omega arith)
@@ -187,7 +187,7 @@ DoneOrBack w o = (o .answer ≡ Done) ⊎ (o .writer ≡ w)
 
 open-or-back : (xs : List ℕ) (page : PageID) (h : ℕ) (w : PageWriter) (left : ℕ) → DoneOrBack w (opened xs page h w left)
 unfolding opened
-open-or-back xs page h w left = by (openVerdict (length xs) (page .0) h)
+open-or-back xs page h w left = by (openCheck (length xs) (page .0) h)
   where
     by : (v : Verdict) → DoneOrBack w (openedAfter v w left (openAs (fresh true page h (firstChunk h)) left))
     by (verdict.Refused why) = inr refl
@@ -195,7 +195,7 @@ open-or-back xs page h w left = by (openVerdict (length xs) (page .0) h)
 
 append-or-back : (e : ℕ) (xs : List ℕ) (page : PageID) (h : ℕ) (w : PageWriter) (left : ℕ) → DoneOrBack w (appended e xs page h w left)
 unfolding appended
-append-or-back e xs page h w left = by (openVerdict (length xs) (page .0) h) (walkEnd (pageOf (page .0) xs) (firstChunk h))
+append-or-back e xs page h w left = by (openCheck (length xs) (page .0) h) (walkEnd (pageOf (page .0) xs) (firstChunk h))
   where
     by : (v : Verdict) (end : Ending) → DoneOrBack w (openedAfter v w left (appendedAt e (pageOf (page .0) xs) page h w left end))
     by (verdict.Refused why) end = inr refl

@@ -18,8 +18,8 @@ use Rattle.flash.proofs.LiesOnLaws.{RanOn, lies-both, on-ran, ran-next}
 use Rattle.flash.proofs.OperationLaws.{Ran, ran-append}
 use Rattle.writer.specs.Commits.{payloadFrom, groupAt, chunkOps}
 use Rattle.writer.specs.Duties.{Duty, writeDuty, handsBack, leaves}
-use Rattle.writer.specs.Outcomes.{came, wrote}
-use Rattle.writer.specs.Verdicts.{writerVerdict}
+use Rattle.writer.specs.Outcomes.{endedBy, wrote}
+use Rattle.writer.specs.Checks.{writerCheck}
 use Rattle.writer.specs.Writes.{takes, lacking, toGroup, completes, toWhole, wholeAt, groupOf, wholeOf, grown, closeOps, closed, payloadOps, takingOps}
 use Rattle.writer.specs.declared.answers.Ended.{Ended}
 use Rattle.writer.specs.declared.answers.Taking.the-variants as taking
@@ -77,7 +77,7 @@ Writes e w bytes left xs out ys =
 
 module _ (e : ℕ) (w : PageWriter) (bytes : List ℕ) (left : ℕ) (xs : List ℕ) where
   abbrev checks : Verdict
-  checks = writerVerdict (length xs) w
+  checks = writerCheck (length xs) w
 
   pub write-refused : (why : Refusal) → checks ≡ Refused why → Writes e w bytes left xs (record { answer = taking.Refused why; writer = w; left = left }) xs
   write-refused why f =
@@ -91,7 +91,7 @@ module _ (e : ℕ) (w : PageWriter) (bytes : List ℕ) (left : ℕ) (xs : List �
       rw (eq-eqb (takes (length bytes) w) 0 (sym t ∙ z), ← t) (ap (wrote n) (r .0), r .1)
 
   pub write-some : (n : ℕ) (r : Spent) (ys : List ℕ) (next after : PageWriter) (end : Ended) (out : Wrote) → checks ≡ Fine → n ≡ takes (length bytes) w → (n ≡ 0 → ⊥)
-      → next ≡ grown w (take n bytes) → Ran (pageStart (w .page .0)) left (takingOps e w (take n bytes)) xs r ys → after ≡ closed next → end ≡ came r after w → out ≡ wrote n end
+      → next ≡ grown w (take n bytes) → Ran (pageStart (w .page .0)) left (takingOps e w (take n bytes)) xs r ys → after ≡ closed next → end ≡ endedBy r after w → out ≡ wrote n end
       → Writes e w bytes left xs out ys
   write-some n r ys next after end out f t z g ran c d o =
       let whole : Duty = record { verdict = checks; ops = takingOps e w (take n bytes); next = closed (grown w (take n bytes)) } in

@@ -8,7 +8,7 @@ use Rattle.flash.specs.Operations.{Op}
 use Rattle.writer.specs.Commits.{commitOps, committed}
 use Rattle.writer.specs.Headings.{headerOps, headed}
 use Rattle.writer.specs.Outcomes.{ended, endedFlash, endedOps}
-use Rattle.writer.specs.Verdicts.{writerVerdict, headingVerdict}
+use Rattle.writer.specs.Checks.{writerCheck, headingCheck}
 use Rattle.writer.specs.Writes.{writeOps, written}
 use Rattle.writer.specs.declared.answers.Ended.{Ended}
 use Rattle.writer.specs.declared.page_writer.PageWriter.{PageWriter}
@@ -22,14 +22,14 @@ pub record Duty : Type 0 where
 -- ---- the three, of a writer w on a flash
 
 abbrev pub writeDuty : ℕ → List ℕ → PageWriter → List ℕ → Duty
-writeDuty e flash w bytes = record { verdict = writerVerdict (length flash) w; ops = writeOps e w bytes; next = written w bytes }
+writeDuty e flash w bytes = record { verdict = writerCheck (length flash) w; ops = writeOps e w bytes; next = written w bytes }
 
 abbrev pub commitDuty : ℕ → List ℕ → PageWriter → Duty
-commitDuty e flash w = record { verdict = writerVerdict (length flash) w; ops = commitOps e w; next = committed w }
+commitDuty e flash w = record { verdict = writerCheck (length flash) w; ops = commitOps e w; next = committed w }
 
 abbrev pub headingDuty : ℕ → List ℕ → PageWriter → ℕ → List ℕ → Duty
 headingDuty e flash w magic header =
-    record { verdict = headingVerdict (length flash) w (length header); ops = headerOps e w magic header; next = headed w }
+    record { verdict = headingCheck (length flash) w (length header); ops = headerOps e w magic header; next = headed w }
 
 -- ---- what one comes to, where `left` stores are left
 

@@ -1,12 +1,12 @@
 pub mod Answers
 pub mod Calls
+pub mod Checks
 pub mod Commits
 pub mod Duties
 pub mod Headings
 pub mod Landings
 pub mod Openings
 pub mod Outcomes
-pub mod Starred
+pub mod ReferenceCases
 pub mod States
-pub mod Verdicts
 pub mod Writes

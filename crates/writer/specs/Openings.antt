@@ -14,7 +14,7 @@ use Rattle.page.specs.Walks.{walkEnd, allErased}
 use Rattle.page.specs.declared.walk.Ending.{Ending}
 use Rattle.page.specs.declared.walk.Ending.the-variants.{EndAt, Corrupted}
 use Rattle.writer.specs.States.{firstChunk, fresh}
-use Rattle.writer.specs.Verdicts.{openVerdict}
+use Rattle.writer.specs.Checks.{openCheck}
 use Rattle.writer.specs.declared.answers.Opened.{Opened}
 use Rattle.types.specs.declared.answers.Outcome.the-variants.{Done, Refused}
 use Rattle.writer.specs.declared.page_writer.PageWriter.{PageWriter}
@@ -34,7 +34,7 @@ openedAfter verdict.Fine w left work = work
 -- open: the erase is armed
 unfoldable pub opened : List ℕ → PageID → ℕ → PageWriter → ℕ → Opened
 opened xs page h w left =
-    openedAfter (openVerdict (length xs) (page .0) h) w left (openAs (fresh true page h (firstChunk h)) left)
+    openedAfter (openCheck (length xs) (page .0) h) w left (openAs (fresh true page h (firstChunk h)) left)
 
 -- the offset at which a page whose chunks end at o is added to: the page's end, if any byte from o on is not erased
 abbrev pub resumeAt : ℕ → List ℕ → ℕ → ℕ
@@ -48,5 +48,5 @@ appendedAt e bytes page h w left (EndAt o) = openAs (fresh false page h (resumeA
 -- open_append: the walk checks neither the page header nor any sum
 unfoldable pub appended : ℕ → List ℕ → PageID → ℕ → PageWriter → ℕ → Opened
 appended e xs page h w left =
-    openedAfter (openVerdict (length xs) (page .0) h) w left
+    openedAfter (openCheck (length xs) (page .0) h) w left
     (appendedAt e (pageOf (page .0) xs) page h w left (walkEnd (pageOf (page .0) xs) (firstChunk h)))

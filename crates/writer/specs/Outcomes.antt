@@ -24,8 +24,8 @@ use Rattle.writer.specs.declared.answers.Wrote.{Wrote}
 use Rattle.writer.specs.declared.page_writer.PageWriter.{PageWriter}
 
 -- if all operations were made, the writer is `next`; if one was cut, it is as it was
-abbrev pub came : Spent → PageWriter → PageWriter → Ended
-came run next w =
+abbrev pub endedBy : Spent → PageWriter → PageWriter → Ended
+endedBy run next w =
     record {
       answer = cond (run .ok) outcome.Done (outcome.Refused Cut);
       writer = cond (run .ok) next w;
@@ -35,7 +35,7 @@ came run next w =
 -- what a call hands back that owes these operations
 abbrev pub ended : Verdict → List Op → PageWriter → PageWriter → ℕ → Ended
 ended (Refused why) ops next w left = record { answer = outcome.Refused why; writer = w; left = left }
-ended Fine ops next w left = came (spent left ops) next w
+ended Fine ops next w left = endedBy (spent left ops) next w
 
 -- the flash after it
 abbrev pub endedFlash : Verdict → List Op → PageWriter → ℕ → List ℕ → List ℕ
@@ -60,5 +60,5 @@ wrote n e = record { answer = took n (e .answer); writer = e .writer; left = e .
 abbrev pub lengthOf : PageWriter → Length
 lengthOf w = cond (inRange w) (len.Bytes (w .total)) (len.Refused BadState)
 
-abbrev pub placeOf : PageWriter → PageOf
-placeOf w = cond (inRange w) (of.Page (w .page)) (of.Refused BadState)
+abbrev pub pageId : PageWriter → PageOf
+pageId w = cond (inRange w) (of.Page (w .page)) (of.Refused BadState)

@@ -3,7 +3,7 @@
 ghost use mathlib.Core.Path.{_≡_};
 ghost use Rattle.types.specs.Answers.{sizeOr};
 ghost use Rattle.writer.specs.Answers.{takingTold, lengthTold};
-use super::page_writer::PageWriter;
+use crate::page_writer::PageWriter;
 use types::answers::Outcome;
 use types::refusal::Refusal;
 

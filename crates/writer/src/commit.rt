@@ -1,8 +1,8 @@
 // Finishing a chunk.
-use super::answers::Ended;
-use super::check::check_writer;
-use super::outcome::came;
-use super::page_writer::PageWriter;
+use crate::answers::Ended;
+use crate::checks::check_writer;
+use crate::outcome::ended_by;
+use crate::page_writer::PageWriter;
 use crc::register::Crc32;
 use flash::ops::Spent;
 use flash::ops::erase_if;
@@ -90,6 +90,6 @@ impl PageWriter {
             };
         }
         let run = finish_chunk(true, self, flash, left);
-        came(run, next_chunk(self), self)
+        ended_by(run, next_chunk(self), self)
     }
 }

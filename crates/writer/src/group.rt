@@ -1,8 +1,8 @@
 // The group buffer: bytes that are too few for a store wait in it.
-use super::buffer::lay;
-use super::page_writer::PageWriter;
+use crate::buffer::put_at;
+use crate::page_writer::PageWriter;
 use types::config::ALIGN;
-use types::num::least;
+use types::num::min;
 ghost use mathlib.Core.Path.{_≡_};
 ghost use Rattle.slices.specs.Patch.{patch};
 ghost use Rattle.writer.specs.Writes.{lacking, toGroup, toWhole, groupOf, bufferOf};
@@ -18,7 +18,7 @@ pub(crate) fn lacking(w: PageWriter) -> usize
 pub(crate) fn to_group(w: PageWriter, n: usize) -> usize
     ensures answers { λ r. ⌜ r ≡ toGroup w n ⌝ }
 {
-    least(lacking(w), n)
+    min(lacking(w), n)
 }
 
 // How many of n bytes go to the whole groups behind it.
@@ -33,7 +33,7 @@ fn filled(buf: [u8; ALIGN], at: usize, bytes: &[u8]) -> [u8; ALIGN]
     ensures answers { λ r. ⌜ r ≡ patch at (now (bytes .entry)) buf ⌝ }
 {
     let mut b = buf;
-    lay(&mut b, at, bytes);
+    put_at(&mut b, at, bytes);
     b
 }
 

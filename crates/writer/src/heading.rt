@@ -1,9 +1,9 @@
 // Writing the page header.
-use super::answers::Ended;
-use super::buffer::lay;
-use super::check::check_heading;
-use super::outcome::came;
-use super::page_writer::PageWriter;
+use crate::answers::Ended;
+use crate::buffer::put_at;
+use crate::checks::check_heading;
+use crate::outcome::ended_by;
+use crate::page_writer::PageWriter;
 use crc::crc32;
 use flash::ops::Spent;
 use flash::ops::erase_if;
@@ -33,10 +33,10 @@ fn page_header(magic: u32, page: PageID, header: &[u8]) -> [u8; PAGE_HEADER_SIZE
     let p = put32(page.0 as u32);
     let s = put32(crc32(header));
     let mut room = [0; PAGE_HEADER_SIZE + MAX_HEADER_SIZE];
-    lay(&mut room, 0, &m);
-    lay(&mut room, 4, &p);
-    lay(&mut room, 8, &s);
-    lay(&mut room, PAGE_HEADER_SIZE, header);
+    put_at(&mut room, 0, &m);
+    put_at(&mut room, 4, &p);
+    put_at(&mut room, 8, &s);
+    put_at(&mut room, PAGE_HEADER_SIZE, header);
     room
 }
 
@@ -74,6 +74,6 @@ impl PageWriter {
         let run = head_page(self, flash, magic, header, left);
         let mut next = self;
         next.armed = false;
-        came(run, next, self)
+        ended_by(run, next, self)
     }
 }

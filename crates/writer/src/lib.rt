@@ -1,7 +1,7 @@
 // Adding to a page (page.rs, PageWriter): chunks of bytes, stored in whole groups, each with its header last.
 pub mod answers;
 mod buffer;
-mod check;
+mod checks;
 mod commit;
 mod group;
 mod heading;

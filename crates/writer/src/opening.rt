@@ -1,7 +1,7 @@
 // Opening a page, to write it anew or to add to it.
-use super::answers::Opened;
-use super::check::check_open;
-use super::page_writer::PageWriter;
+use crate::answers::Opened;
+use crate::checks::check_open;
+use crate::page_writer::PageWriter;
 use flash::geometry::page_of;
 use page::walk::Ending;
 use page::walk::all_erased;

@@ -1,17 +1,17 @@
 // What a call hands back after its operations.
-use super::answers::Ended;
-use super::answers::Taking;
-use super::answers::Wrote;
-use super::page_writer::PageWriter;
+use crate::answers::Ended;
+use crate::answers::Taking;
+use crate::answers::Wrote;
+use crate::page_writer::PageWriter;
 use flash::ops::Spent;
 use types::answers::Outcome;
 use types::refusal::Refusal;
 ghost use mathlib.Core.Path.{_≡_};
-ghost use Rattle.writer.specs.Outcomes.{came, wrote};
+ghost use Rattle.writer.specs.Outcomes.{endedBy, wrote};
 
 // If all operations were made, the writer is `next`; if one was cut, it is as it was.
-pub(crate) fn came(run: Spent, next: PageWriter, w: PageWriter) -> Ended
-    ensures answers { λ r. ⌜ r ≡ came run next w ⌝ }
+pub(crate) fn ended_by(run: Spent, next: PageWriter, w: PageWriter) -> Ended
+    ensures answers { λ r. ⌜ r ≡ endedBy run next w ⌝ }
 {
     if run.ok {
         Ended {

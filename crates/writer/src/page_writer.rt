@@ -1,6 +1,6 @@
 // The writer by value: where it writes, and what waits to be stored.
-use super::answers::Length;
-use super::check::in_range;
+use crate::answers::Length;
+use crate::checks::in_range;
 use crc::register::Crc32;
 use types::answers::PageOf;
 use types::config::ALIGN;
@@ -8,7 +8,7 @@ use types::config::PAGE_HEADER_SIZE;
 use types::page_id::PageID;
 use types::refusal::Refusal;
 ghost use mathlib.Core.Path.{_≡_};
-ghost use Rattle.writer.specs.Outcomes.{lengthOf, placeOf};
+ghost use Rattle.writer.specs.Outcomes.{lengthOf, pageId};
 ghost use Rattle.writer.specs.States.{fresh, newWriter};
 
 pub struct PageWriter {
@@ -63,7 +63,7 @@ impl PageWriter {
     }
 
     pub fn page_id(self) -> PageOf
-        ensures answers { λ r. ⌜ r ≡ placeOf self ⌝ }
+        ensures answers { λ r. ⌜ r ≡ pageId self ⌝ }
     {
         let page = self.page;
         if in_range(self) {

@@ -1,17 +1,17 @@
 // Taking bytes.
-use super::answers::Taking;
-use super::answers::Wrote;
-use super::check::check_writer;
-use super::commit::finish_chunk;
-use super::commit::next_chunk;
-use super::group::buffer_of;
-use super::group::group_of;
-use super::group::lacking;
-use super::group::to_group;
-use super::group::to_whole;
-use super::outcome::came;
-use super::outcome::wrote;
-use super::page_writer::PageWriter;
+use crate::answers::Taking;
+use crate::answers::Wrote;
+use crate::checks::check_writer;
+use crate::commit::finish_chunk;
+use crate::commit::next_chunk;
+use crate::group::buffer_of;
+use crate::group::group_of;
+use crate::group::lacking;
+use crate::group::to_group;
+use crate::group::to_whole;
+use crate::outcome::ended_by;
+use crate::outcome::wrote;
+use crate::page_writer::PageWriter;
 use crc::register::Crc32;
 use flash::ops::Spent;
 use flash::ops::erase_if;
@@ -22,8 +22,8 @@ use types::config::CHUNK_HEADER_SIZE;
 use types::config::ERASE_VALUE;
 use types::config::MAX_CHUNK_SIZE;
 use types::config::PAGE_SIZE;
-use types::num::least;
-use types::num::less;
+use types::num::min;
+use types::num::minus;
 use types::refusal::Verdict;
 ghost use mathlib.Core.Path.{_≡_};
 ghost use mathlib.Core.Bool.{true};
@@ -42,9 +42,9 @@ fn takes(n: usize, w: PageWriter) -> usize
     requires { ⌜ w .pending ≤ maxChunkSize ⌝ }
     ensures answers { λ r. ⌜ r ≡ takes n w ⌝ }
 {
-    let page = less(PAGE_SIZE, w.offset + CHUNK_HEADER_SIZE + w.pending);
-    let chunk = less(MAX_CHUNK_SIZE, w.pending);
-    least(n, least(page, chunk))
+    let page = minus(PAGE_SIZE, w.offset + CHUNK_HEADER_SIZE + w.pending);
+    let chunk = minus(MAX_CHUNK_SIZE, w.pending);
+    min(n, min(page, chunk))
 }
 
 // The writer after it took these bytes.
@@ -144,6 +144,6 @@ impl PageWriter {
         let part = &bytes[..n];
         let next = grown(self, part);
         let run = take_bytes(self, next, flash, part, left);
-        wrote(n, came(run, closed(next), self))
+        wrote(n, ended_by(run, closed(next), self))
     }
 }

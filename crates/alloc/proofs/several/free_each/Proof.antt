@@ -20,8 +20,8 @@ Inv-loop a freed pages₀ used₀ i₀ pages used i = Freeing a freed i (stateOf
 abbrev μ-loop : tie.MeasureT-loop
 μ-loop a freed pages₀ used₀ i₀ pages used i = length freed - i
 
-state-check-requires : tie.Need-state-check-requires Inv-loop μ-loop
-state-check-requires c κs = search needs
+check-state-requires : tie.Need-check-state-requires Inv-loop μ-loop
+check-state-requires c κs = search needs
 
 enum-known-why : tie.Need-enum-known-why Inv-loop μ-loop
 enum-known-why c = search needs
@@ -30,14 +30,14 @@ refused-requires : tie.Need-refused-requires Inv-loop μ-loop
 refused-requires c κs = search needs
 
 returns : tie.Need-returns Inv-loop μ-loop
-returns c = c .refused .ensures ∙ refused-free _ _ _ (sym (c .before .before .before .before .state-check .ensures) ∙ c .before .before .why .given .1)
+returns c = c .refused .ensures ∙ refused-free _ _ _ (sym (c .before .before .before .before .check-state .ensures) ∙ c .before .before .why .given .1)
 
 enum-told : tie.Need-enum-told Inv-loop μ-loop
 enum-told c = search needs
 
 -- the check has passed
 fine : (c : tie.After-enum-told Inv-loop μ-loop) → stateCheck (c .before .before .before .before .args .a) ≡ Fine
-fine c = sym (c .before .before .state-check .ensures) ∙ c .enum-told .given .1
+fine c = sym (c .before .before .check-state .ensures) ∙ c .enum-told .given .1
 
 loop-holds : tie.Need-loop-holds Inv-loop μ-loop
 loop-holds c = free-begun _ _ (search needs, fine-state _ (fine (c .before)))
@@ -141,7 +141,7 @@ free-each-spec =
     (tie.spec
     Inv-loop
     μ-loop
-    state-check-requires
+    check-state-requires
     enum-known-why
     refused-requires
     returns

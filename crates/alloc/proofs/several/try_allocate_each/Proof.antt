@@ -6,7 +6,7 @@ use lib.ListN.{length, length-set}
 use borrow.Author.Needs.{needs}
 use Rattle.types.specs.declared.page_id.MaybePageID.the-variants.{Some}
 use Rattle.types.specs.declared.refusal.Verdict.the-variants.{Fine}
-use Rattle.alloc.specs.Calls.{found}
+use Rattle.alloc.specs.Calls.{nextFree}
 use Rattle.alloc.specs.Checks.{stateCheck}
 use Rattle.alloc.specs.Marks.{isMarked}
 use Rattle.alloc.specs.Several.{allocateEach, placesAfter}
@@ -24,21 +24,21 @@ Inv-loop places₀ count pages₀ used₀ next₀ i₀ places pages used next i 
 abbrev μ-loop : tie.MeasureT-loop
 μ-loop places₀ count pages₀ used₀ next₀ i₀ places pages used next i = length places - i
 
-state-check-requires : tie.Need-state-check-requires Inv-loop μ-loop
-state-check-requires c κs = search needs
+check-state-requires : tie.Need-check-state-requires Inv-loop μ-loop
+check-state-requires c κs = search needs
 
 enum-known-why : tie.Need-enum-known-why Inv-loop μ-loop
 enum-known-why c = search needs
 
 returns : tie.Need-returns Inv-loop μ-loop
-returns c = refused-each _ _ _ (sym (c .before .before .before .state-check .ensures) ∙ c .before .why .given .1)
+returns c = refused-each _ _ _ (sym (c .before .before .before .check-state .ensures) ∙ c .before .why .given .1)
 
 enum-told : tie.Need-enum-told Inv-loop μ-loop
 enum-told c = search needs
 
 -- the check has passed
 fine : (c : tie.After-enum-told Inv-loop μ-loop) → stateCheck (c .before .before .before .before .args .a) ≡ Fine
-fine c = sym (c .before .before .state-check .ensures) ∙ c .enum-told .given .1
+fine c = sym (c .before .before .check-state .ensures) ∙ c .enum-told .given .1
 
 loop-holds : tie.Need-loop-holds Inv-loop μ-loop
 loop-holds c = hand-begun _ _ (search needs, fine-state _ (fine (c .before)))
@@ -83,7 +83,7 @@ slice-aggregate-mark : tie.Need-slice-aggregate-mark Inv-loop μ-loop
 slice-aggregate-mark c = search needs
 
 -- a page is found
-page-found : (c : tie.After-index Inv-loop μ-loop) → found (this (c .before .before .before .before .before .before .before)) ≡ Some (c .before .before .page .given .0 .0)
+page-found : (c : tie.After-index Inv-loop μ-loop) → nextFree (this (c .before .before .before .before .before .before .before)) ≡ Some (c .before .before .page .given .0 .0)
 page-found c = sym (c .before .before .before .before .first-free .ensures) ∙ c .before .before .page .given .1
 
 free-here : (c : tie.After-index Inv-loop μ-loop) → (c .index .result < this (c .before .before .before .before .before .before .before) .«page_count»)
@@ -164,7 +164,7 @@ try-allocate-each-spec =
     (tie.spec
     Inv-loop
     μ-loop
-    state-check-requires
+    check-state-requires
     enum-known-why
     returns
     enum-told

@@ -3,8 +3,8 @@ use borrow.Author.Needs.{needs}
 use Rattle.bench_jobs.proofs.allocating.puffcradle_alloc_cycle.Statement.{statement}
 use Rattle.bench_jobs.proofs.allocating.puffcradle_alloc_cycle.Tie as tie
 
-begun-requires : tie.Need-begun-requires
-begun-requires c κs = search needs
+reset-tally-requires : tie.Need-reset-tally-requires
+reset-tally-requires c κs = search needs
 
 allocate-all-requires : tie.Need-allocate-all-requires
 allocate-all-requires c κs = search needs
@@ -14,8 +14,9 @@ free-all-requires c κs = search needs
 
 returns : tie.Need-returns
 returns c =
-    cycle _ _ (c .before .before .begun .result) (c .before .allocate-all .result) (c .free-all .result) (c .before .before .begun .ensures) (c .before .allocate-all .ensures) (c .free-all .ensures)
+    cycle _ _ (c .before .before .reset-tally .result) (c .before .allocate-all .result) (c .free-all .result)
+    (c .before .before .reset-tally .ensures) (c .before .allocate-all .ensures) (c .free-all .ensures)
 
 pub puffcradle-alloc-cycle-spec : {M : Type 1} → statement M
 puffcradle-alloc-cycle-spec =
-    tie.close (tie.spec begun-requires allocate-all-requires free-all-requires returns)
+    tie.close (tie.spec reset-tally-requires allocate-all-requires free-all-requires returns)

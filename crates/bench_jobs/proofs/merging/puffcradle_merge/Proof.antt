@@ -4,23 +4,23 @@ use native.Mathlib.Omega.{arith}
 use lib.ListN.{length}
 use borrow.Author.Needs.{needs}
 use borrow.Author.Tests.{not-true, not-false}
-use Rattle.bench_jobs.specs.Merges.{stateOf, mergeOn, mergeAll}
+use Rattle.bench_jobs.specs.Merges.{mergeState, mergeOn, mergeAll}
 use Rattle.bench_jobs.proofs.MergingLaws.{calls-start, calls-stop, calls-none, calls-more}
 use Rattle.bench_jobs.proofs.merging.puffcradle_merge.Statement.{statement}
 use Rattle.bench_jobs.proofs.merging.puffcradle_merge.Tie as tie
 
 abbrev Inv-loop : tie.InvT-loop
 Inv-loop runs ends most key₀ value₀ m₀ left₀ key value m left = (length key ≡ length key₀) × (length value ≡ length value₀)
-    × (mergeOn left runs ends (stateOf m key value) ≡ mergeAll most runs ends key₀ value₀)
+    × (mergeOn left runs ends (mergeState m key value) ≡ mergeAll most runs ends key₀ value₀)
 
 abbrev μ-loop : tie.MeasureT-loop
 μ-loop runs ends most key₀ value₀ m₀ left₀ key value m left = left
 
-begun-requires : tie.Need-begun-requires Inv-loop μ-loop
-begun-requires c κs = search needs
+merge-begun-requires : tie.Need-merge-begun-requires Inv-loop μ-loop
+merge-begun-requires c κs = search needs
 
 loop-holds : tie.Need-loop-holds Inv-loop μ-loop
-loop-holds c = (refl, refl, calls-start _ _ _ _ _ _ (c .begun .ensures))
+loop-holds c = (refl, refl, calls-start _ _ _ _ _ _ (c .merge-begun .ensures))
 
 same-length : tie.Need-same-length Inv-loop μ-loop
 same-length c = c .before .before .before .loop .inv .0
@@ -67,7 +67,7 @@ puffcradle-merge-spec =
     (tie.spec
     Inv-loop
     μ-loop
-    begun-requires
+    merge-begun-requires
     loop-holds
     same-length
     same-length-2

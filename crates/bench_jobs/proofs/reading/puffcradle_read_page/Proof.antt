@@ -17,8 +17,8 @@ open-requires c κs = search needs
 reading-at-requires : tie.Need-reading-at-requires
 reading-at-requires c κs = search needs
 
-read-all-requires : tie.Need-read-all-requires
-read-all-requires c κs = search needs
+read-pieces-requires : tie.Need-read-pieces-requires
+read-pieces-requires c κs = search needs
 
 told-requires : tie.Need-told-requires
 told-requires c κs = search needs
@@ -31,8 +31,8 @@ same-length-2 c = search needs
 
 returns : tie.Need-returns
 returns c =
-    let at-read-all = c .before .before .before in
-    let at-reading-at = at-read-all .before .before in
+    let at-read-pieces = c .before .before .before in
+    let at-reading-at = at-read-pieces .before .before in
     let at-open = at-reading-at .before .before .before .before in
     let at-new = at-open .before .before in
     let start = at-new .before .before .before .before in
@@ -41,7 +41,7 @@ returns c =
     let new = at-new .new in
     let opened = at-open .«open» in
     let start = at-reading-at .reading-at in
-    let all = at-read-all .read-all in (
+    let all = at-read-pieces .read-pieces in (
       page-read (now (a .flash)) (a .magic) (a .page) h (now (a .out)) (new .result) (opened .result) (start .result) (new .ensures) (opened .ensures .0) (start .ensures) (all .result) _
           (all .ensures .0) (c .told .ensures),
       (
@@ -57,7 +57,7 @@ puffcradle-read-page-spec =
     new-requires
     open-requires
     reading-at-requires
-    read-all-requires
+    read-pieces-requires
     told-requires
     same-length
     same-length-2

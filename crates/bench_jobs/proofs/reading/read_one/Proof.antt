@@ -5,8 +5,8 @@ use borrow.Author.Needs.{needs}
 use Rattle.bench_jobs.proofs.reading.read_one.Statement.{statement}
 use Rattle.bench_jobs.proofs.reading.read_one.Tie as tie
 
-least-requires : tie.Need-least-requires
-least-requires c κs = search needs
+min-requires : tie.Need-min-requires
+min-requires c κs = search needs
 
 sub-read : tie.Need-sub-read
 sub-read c = search needs
@@ -26,10 +26,10 @@ enum-known-answer c = search needs
 add-t16 : tie.Need-add-t16
 add-t16 c =
     let at-read = c .before .before .before .before .before .before in
-    let at-least = at-read .before .before .before in
-    let start = at-least .before .before .before in
+    let at-min = at-read .before .before .before in
+    let start = at-min .before .before .before in
     let a = start .args in
-    let within = put-within (now (a .flash)) (now (a .out)) (a .r) (at-least .least .result) (at-least .least .ensures) (at-read .read .result) (c .before .answer .given .0 .0)
+    let within = put-within (now (a .flash)) (now (a .out)) (a .r) (at-min .min .result) (at-min .min .ensures) (at-read .read .result) (c .before .answer .given .0 .0)
     (at-read .read .ensures .0) (c .before .answer .given .1) in
     omega arith
 
@@ -45,11 +45,11 @@ same-length c = search needs
 returns : tie.Need-returns
 returns c =
     let at-read = c .before .before .before .before .before .before in
-    let at-least = at-read .before .before .before in
-    let start = at-least .before .before .before in
+    let at-min = at-read .before .before .before in
+    let start = at-min .before .before .before in
     let a = start .args in (
-      read-some (now (a .flash)) (now (a .out)) (a .r) (at-least .least .result) (at-least .least .ensures) (at-read .read .result) _ (at-read .read .ensures .0) (c .before .answer .given .1),
-      read-put (now (a .flash)) (now (a .out)) (a .r) (at-least .least .result) (at-least .least .ensures) _ (at-read .read .ensures .1),
+      read-some (now (a .flash)) (now (a .out)) (a .r) (at-min .min .result) (at-min .min .ensures) (at-read .read .result) _ (at-read .read .ensures .0) (c .before .answer .given .1),
+      read-put (now (a .flash)) (now (a .out)) (a .r) (at-min .min .result) (at-min .min .ensures) _ (at-read .read .ensures .1),
     )
 
 same-length-2 : tie.Need-same-length-2
@@ -58,19 +58,19 @@ same-length-2 c = search needs
 returns-2 : tie.Need-returns-2
 returns-2 c =
     let at-read = c .before .before .before .before .before .before .before in
-    let at-least = at-read .before .before .before in
-    let start = at-least .before .before .before in
+    let at-min = at-read .before .before .before in
+    let start = at-min .before .before .before in
     let a = start .args in (
-      read-refused (now (a .flash)) (now (a .out)) (a .r) (at-least .least .result) (at-least .least .ensures) (at-read .read .result) _ _ (at-read .read .ensures .0)
+      read-refused (now (a .flash)) (now (a .out)) (a .r) (at-min .min .result) (at-min .min .ensures) (at-read .read .result) _ _ (at-read .read .ensures .0)
           (c .before .before .answer2 .given .1) (c .number .ensures),
-      read-put (now (a .flash)) (now (a .out)) (a .r) (at-least .least .result) (at-least .least .ensures) _ (at-read .read .ensures .1),
+      read-put (now (a .flash)) (now (a .out)) (a .r) (at-min .min .result) (at-min .min .ensures) _ (at-read .read .ensures .1),
     )
 
 pub read-one-spec : {M : Type 1} → statement M
 read-one-spec =
     tie.close
     (tie.spec
-    least-requires
+    min-requires
     sub-read
     part-read-start
     part-read-end

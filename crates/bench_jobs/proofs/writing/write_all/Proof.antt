@@ -4,13 +4,13 @@ use native.Mathlib.Omega.{arith}
 use lib.ListN.{length}
 use borrow.Author.Needs.{needs}
 use borrow.Author.Tests.{not-true, not-false}
-use Rattle.bench_jobs.specs.Writings.{stateOf, writeOn, writeAll}
+use Rattle.bench_jobs.specs.Writings.{writeState, writeOn, writeAll}
 use Rattle.bench_jobs.proofs.WritingLaws.{writes-stop, writes-none, writes-more}
 use Rattle.bench_jobs.proofs.writing.write_all.Statement.{statement}
 use Rattle.bench_jobs.proofs.writing.write_all.Tie as tie
 
 abbrev Inv-loop : tie.InvT-loop
-Inv-loop flash₀ payload piece w₀ left₀ flash w left = (length flash ≡ length flash₀) × (writeOn left payload piece (stateOf w flash) ≡ writeAll payload piece (stateOf w₀ flash₀))
+Inv-loop flash₀ payload piece w₀ left₀ flash w left = (length flash ≡ length flash₀) × (writeOn left payload piece (writeState w flash) ≡ writeAll payload piece (writeState w₀ flash₀))
 
 abbrev μ-loop : tie.MeasureT-loop
 μ-loop flash₀ payload piece w₀ left₀ flash w left = left

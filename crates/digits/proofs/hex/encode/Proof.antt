@@ -17,13 +17,13 @@ Inv-loop bytes out₀ n i₀ out i = (i ≤ n) × ((n ≡ min (length bytes) (le
 abbrev μ-loop : tie.MeasureT-loop
 μ-loop bytes out₀ n i₀ out i = n - i
 
-least-requires : tie.Need-least-requires Inv-loop μ-loop
-least-requires c κs = search needs
+min-requires : tie.Need-min-requires Inv-loop μ-loop
+min-requires c κs = search needs
 
 loop-holds : tie.Need-loop-holds Inv-loop μ-loop
 loop-holds c =
     let a = c .before .before .before .args in
-    (omega arith, (c .least .ensures, (refl, put-start (hexOf (a .bytes .now)) (a .out .now))))
+    (omega arith, (c .min .ensures, (refl, put-start (hexOf (a .bytes .now)) (a .out .now))))
 
 shared-slice-read-high-digit : tie.Need-shared-slice-read-high-digit Inv-loop μ-loop
 shared-slice-read-high-digit c = omega arith
@@ -84,8 +84,8 @@ returns : tie.Need-returns Inv-loop μ-loop
 returns c =
     let l = c .before .loop in
     let a = c .before .before .before .before .before .args in
-    let n = c .before .before .least .result in
-    (rw (c .before .before .least .ensures), l .inv .1 .1 .1 ∙ encode-end (a .bytes .now) (a .out .now) (l .i) (omega arith))
+    let n = c .before .before .min .result in
+    (rw (c .before .before .min .ensures), l .inv .1 .1 .1 ∙ encode-end (a .bytes .now) (a .out .now) (l .i) (omega arith))
 
 pub encode-spec : {M : Type 1} → statement M
 encode-spec =
@@ -93,7 +93,7 @@ encode-spec =
     (tie.spec
     Inv-loop
     μ-loop
-    least-requires
+    min-requires
     loop-holds
     shared-slice-read-high-digit
     high-digit-requires

@@ -3,14 +3,14 @@ use mathlib.Core.Path.{_≡_, refl, _∙_}
 use Prim.Native.Nat.{_-_}
 use borrow.Author.Needs.{needs}
 use lib.ListN.{length, drop}
-use Rattle.digits.specs.Numbers.{readOn}
+use Rattle.digits.specs.Numbers.{readDigits}
 use Rattle.digits.specs.declared.number.Number.the-variants.{Value, NoNumber}
 use Rattle.digits.proofs.NumberLaws.{read-turn, read-stops, read-done, number-empty, number-read}
 use Rattle.digits.proofs.number.number_in.Statement.{statement}
 use Rattle.digits.proofs.number.number_in.Tie as tie
 
 abbrev Inv-loop : tie.InvT-loop
-Inv-loop base most word n₀ i₀ n i = readOn base most (Value n) (drop i word) ≡ readOn base most (Value 0) word
+Inv-loop base most word n₀ i₀ n i = readDigits base most (Value n) (drop i word) ≡ readDigits base most (Value 0) word
 
 abbrev μ-loop : tie.MeasureT-loop
 μ-loop base most word n₀ i₀ n i = length word - i
@@ -29,8 +29,8 @@ shared-slice-read-digit-in c = search needs
 digit-in-requires : tie.Need-digit-in-requires Inv-loop μ-loop
 digit-in-requires c κs = search needs
 
-joined-requires : tie.Need-joined-requires Inv-loop μ-loop
-joined-requires c κs = search needs
+with-digit-requires : tie.Need-with-digit-requires Inv-loop μ-loop
+with-digit-requires c κs = search needs
 
 enum-known-next : tie.Need-enum-known-next Inv-loop μ-loop
 enum-known-next c = search needs
@@ -46,7 +46,7 @@ returns-2 c =
     let l = at-place in
     let a = l .before .before .before .args in
     let d = at-digit-in .digit-in in
-    let r = c .before .before .joined in
+    let r = c .before .before .with-digit in
     number-read (a .base) (a .most) (a .word .now) NoNumber (l .before .if1 .left)
     (read-stops (a .base) (a .most) (a .word .now) (l .loop .i) (l .loop .n) (at-loop-test .loop-test .taken) (d .result) (r .result) (d .ensures) (r .ensures) (c .enum-told .given .1)
     ∙ l .loop .inv)
@@ -59,14 +59,14 @@ loop-less c = search needs
 
 loop-again : tie.Need-loop-again Inv-loop μ-loop
 loop-again c =
-    let at-joined = c .before .before .before in
-    let at-digit-in = at-joined .before in
+    let at-with-digit = c .before .before .before in
+    let at-digit-in = at-with-digit .before in
     let at-loop-test = at-digit-in .before .before in
     let at-place = at-loop-test .before in
     let l = at-place in
     let a = l .before .before .before .args in
     let d = at-digit-in .digit-in in
-    let r = at-joined .joined in
+    let r = at-with-digit .with-digit in
     read-turn (a .base) (a .most) (a .word .now) (l .loop .i) (l .loop .n) (at-loop-test .loop-test .taken) (d .result) (r .result) (Value (c .before .next .given .0 .0)) (d .ensures)
     (r .ensures) (c .before .next .given .1) ∙ l .loop .inv
 
@@ -86,7 +86,7 @@ number-in-spec =
     loop-holds
     shared-slice-read-digit-in
     digit-in-requires
-    joined-requires
+    with-digit-requires
     enum-known-next
     enum-told
     returns-2

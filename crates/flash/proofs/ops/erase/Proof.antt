@@ -9,14 +9,14 @@ use Rattle.flash.proofs.ops.erase.Tie as tie
 page-start-requires : tie.Need-page-start-requires
 page-start-requires c κs = search needs
 
-least-requires : tie.Need-least-requires
-least-requires c κs = search needs
+min-requires : tie.Need-min-requires
+min-requires c κs = search needs
 
-add-least : tie.Need-add-least
-add-least c = search needs
+add-min : tie.Need-add-min
+add-min c = search needs
 
-least-requires-2 : tie.Need-least-requires-2
-least-requires-2 c κs = search needs
+min-requires-2 : tie.Need-min-requires-2
+min-requires-2 c κs = search needs
 
 sub-wipe : tie.Need-sub-wipe
 sub-wipe c = search needs
@@ -40,17 +40,17 @@ returns c =
     let start = end .before in
     let page = start .before in
     let a = page .before .before .args in
-    erase-lent (a .value) (pageStart (a .page .0)) (start .least .result) (end .least2 .result) (a .flash .now) (wiped .wipe .last .0)
-    (start .least .ensures ∙ rw (page .page-start .ensures)) (end .least2 .ensures) (wiped .wipe .ensures)
+    erase-lent (a .value) (pageStart (a .page .0)) (start .min .result) (end .min2 .result) (a .flash .now) (wiped .wipe .last .0)
+    (start .min .ensures ∙ rw (page .page-start .ensures)) (end .min2 .ensures) (wiped .wipe .ensures)
 
 pub erase-spec : {M : Type 1} → statement M
 erase-spec =
     tie.close
     (tie.spec
     page-start-requires
-    least-requires
-    add-least
-    least-requires-2
+    min-requires
+    add-min
+    min-requires-2
     sub-wipe
     part-wipe-start
     part-wipe-end

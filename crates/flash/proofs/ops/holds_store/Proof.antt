@@ -8,13 +8,13 @@ use Rattle.flash.proofs.ops.holds_store.Tie as tie
 has-page-requires : tie.Need-has-page-requires
 has-page-requires c κs = search needs
 
-less-requires : tie.Need-less-requires
-less-requires c κs = search needs
+minus-requires : tie.Need-minus-requires
+minus-requires c κs = search needs
 
 returns : tie.Need-returns
 returns c =
     let a = c .before .before .args in
-    rw (c .before .has-page .ensures) (fits-store (hasPage (a .flash) (a .page .0)) (a .at) (a .bytes) (c .less .result) (c .less .ensures))
+    rw (c .before .has-page .ensures) (fits-store (hasPage (a .flash) (a .page .0)) (a .at) (a .bytes) (c .minus .result) (c .minus .ensures))
 
 pub holds-store-spec : {M : Type 1} → statement M
-holds-store-spec = tie.close (tie.spec has-page-requires less-requires returns)
+holds-store-spec = tie.close (tie.spec has-page-requires minus-requires returns)

@@ -8,23 +8,23 @@ use borrow.Author.Needs.{needs}
 use Rattle.flash.proofs.ops.store.Statement.{statement}
 use Rattle.flash.proofs.ops.store.Tie as tie
 
-less-requires : tie.Need-less-requires
-less-requires c κs = search needs
+minus-requires : tie.Need-minus-requires
+minus-requires c κs = search needs
 
-least-requires : tie.Need-least-requires
-least-requires c κs = search needs
+min-requires : tie.Need-min-requires
+min-requires c κs = search needs
 
 page-start-requires : tie.Need-page-start-requires
 page-start-requires c κs = search needs
 
-add-least : tie.Need-add-least
-add-least c = search needs
+add-min : tie.Need-add-min
+add-min c = search needs
 
-sub-least : tie.Need-sub-least
-sub-least c = search needs
+sub-min : tie.Need-sub-min
+sub-min c = search needs
 
-least-requires-2 : tie.Need-least-requires-2
-least-requires-2 c κs = search needs
+min-requires-2 : tie.Need-min-requires-2
+min-requires-2 c κs = search needs
 
 sub-put : tie.Need-sub-put
 sub-put c = search needs
@@ -52,20 +52,20 @@ returns c =
     let count = start .before in
     let room = count .before in
     let a = room .before .before .before .args in
-    store-lent (pageStart (a .page .0)) (a .at) (room .less .result) (count .least .result) (from .least2 .result)
+    store-lent (pageStart (a .page .0)) (a .at) (room .minus .result) (count .min .result) (from .min2 .result)
     (a .bytes .now) (a .flash .now) (put .put .last .0)
-    (room .less .ensures) (count .least .ensures) (from .least2 .ensures ∙ rw (start .page-start .ensures)) (put .put .ensures)
+    (room .minus .ensures) (count .min .ensures) (from .min2 .ensures ∙ rw (start .page-start .ensures)) (put .put .ensures)
 
 pub store-spec : {M : Type 1} → statement M
 store-spec =
     tie.close
     (tie.spec
-    less-requires
-    least-requires
+    minus-requires
+    min-requires
     page-start-requires
-    add-least
-    sub-least
-    least-requires-2
+    add-min
+    sub-min
+    min-requires-2
     sub-put
     part-put-start
     part-put-end

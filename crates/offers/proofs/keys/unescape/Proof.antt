@@ -49,11 +49,11 @@ returns-3 c = search needs
 put-requires : tie.Need-put-requires Inv-loop μ-loop
 put-requires c κs = search needs
 
-less-requires : tie.Need-less-requires Inv-loop μ-loop
-less-requires c κs = search needs
+minus-requires : tie.Need-minus-requires Inv-loop μ-loop
+minus-requires c κs = search needs
 
-least-requires : tie.Need-least-requires Inv-loop μ-loop
-least-requires c κs = search needs
+min-requires : tie.Need-min-requires Inv-loop μ-loop
+min-requires c κs = search needs
 
 add-i : tie.Need-add-i Inv-loop μ-loop
 add-i c = omega arith
@@ -91,8 +91,8 @@ unescape-spec =
     same-length-3
     returns-3
     put-requires
-    less-requires
-    least-requires
+    minus-requires
+    min-requires
     add-i
     add-counter
     loop-less

@@ -28,8 +28,8 @@ shared-slice-read-put-byte c = omega arith
 put-byte-requires : tie.Need-put-byte-requires Inv-loop μ-loop
 put-byte-requires c κs = search needs
 
-less-requires : tie.Need-less-requires Inv-loop μ-loop
-less-requires c κs = search needs
+minus-requires : tie.Need-minus-requires Inv-loop μ-loop
+minus-requires c κs = search needs
 
 add-i : tie.Need-add-i Inv-loop μ-loop
 add-i c = omega arith
@@ -57,7 +57,7 @@ put-all-spec =
     plain-at-requires
     shared-slice-read-put-byte
     put-byte-requires
-    less-requires
+    minus-requires
     add-i
     loop-less
     loop-again

@@ -35,8 +35,8 @@ enum-known-len c = search needs
 add-chunks : tie.Need-add-chunks Inv-loop μ-loop
 add-chunks c = omega arith
 
-least-requires : tie.Need-least-requires Inv-loop μ-loop
-least-requires c κs = search needs
+min-requires : tie.Need-min-requires Inv-loop μ-loop
+min-requires c κs = search needs
 
 add-bytes : tie.Need-add-bytes Inv-loop μ-loop
 add-bytes c = omega arith
@@ -67,7 +67,7 @@ walked-spec =
     returns-2
     enum-known-len
     add-chunks
-    least-requires
+    min-requires
     add-bytes
     add-counter
     loop-less

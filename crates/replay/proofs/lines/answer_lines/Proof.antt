@@ -22,8 +22,8 @@ loop-holds c = omega arith
 end-from-requires : tie.Need-end-from-requires Inv-loop μ-loop
 end-from-requires c κs = search needs
 
-less-requires : tie.Need-less-requires Inv-loop μ-loop
-less-requires c κs = search needs
+minus-requires : tie.Need-minus-requires Inv-loop μ-loop
+minus-requires c κs = search needs
 
 part-of-requires : tie.Need-part-of-requires Inv-loop μ-loop
 part-of-requires c κs = search needs
@@ -58,22 +58,22 @@ same-length-3 c =
 returns : tie.Need-returns Inv-loop μ-loop
 returns c = omega arith
 
-least-requires : tie.Need-least-requires Inv-loop μ-loop
-least-requires c κs = search needs
+min-requires : tie.Need-min-requires Inv-loop μ-loop
+min-requires c κs = search needs
 
 add-at : tie.Need-add-at Inv-loop μ-loop
 add-at c =
     let line = c .before .before .before .before .before .before .before .before in
     let turn = line .before .before .before .before .before .before .before .before in
     let ended = line .before .before .before .before .before .before .before .end-from .ensures in
-    omega (arith, (c .least .ensures), ended, (turn .loop-test .taken), (turn .before .loop .inv), (turn .before .before .before .before .before .before .before))
+    omega (arith, (c .min .ensures), ended, (turn .loop-test .taken), (turn .before .loop .inv), (turn .before .before .before .before .before .before .before))
 
 loop-less : tie.Need-loop-less Inv-loop μ-loop
 loop-less c =
     let line = c .before .before .before .before .before .before .before .before in
     let turn = line .before .before .before .before .before .before .before .before in
     let ended = line .before .before .before .before .before .before .before .end-from .ensures in
-    omega (arith, (c .least .ensures), ended, (turn .loop-test .taken), (turn .before .loop .inv))
+    omega (arith, (c .min .ensures), ended, (turn .loop-test .taken), (turn .before .loop .inv))
 
 loop-again : tie.Need-loop-again Inv-loop μ-loop
 loop-again c =
@@ -82,7 +82,7 @@ loop-again c =
     let ended = line .before .before .before .before .before .before .before .end-from .ensures in
     omega (
       arith,
-      (c .least .ensures),
+      (c .min .ensures),
       ended,
       (turn .loop-test .taken),
       (turn .before .loop .inv),
@@ -112,7 +112,7 @@ answer-lines-spec =
     new-world-requires
     loop-holds
     end-from-requires
-    less-requires
+    minus-requires
     part-of-requires
     add-number
     answer-requires
@@ -121,7 +121,7 @@ answer-lines-spec =
     same-length-2
     same-length-3
     returns
-    least-requires
+    min-requires
     add-at
     loop-less
     loop-again

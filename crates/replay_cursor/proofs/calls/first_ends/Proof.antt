@@ -5,14 +5,14 @@ use borrow.Author.Needs.{needs}
 use Rattle.replay_cursor.proofs.calls.first_ends.Statement.{statement}
 use Rattle.replay_cursor.proofs.calls.first_ends.Tie as tie
 
-least-requires : tie.Need-least-requires
-least-requires c κs = search needs
+min-requires : tie.Need-min-requires
+min-requires c κs = search needs
 
 slice-aggregate-result : tie.Need-slice-aggregate-result
-slice-aggregate-result c = simp length-take (omega (arith, c .before .least .ensures))
+slice-aggregate-result c = simp length-take (omega (arith, c .before .min .ensures))
 
 returns : tie.Need-returns
 returns c = search needs
 
 pub first-ends-spec : {M : Type 1} → statement M
-first-ends-spec = tie.close (tie.spec least-requires slice-aggregate-result returns)
+first-ends-spec = tie.close (tie.spec min-requires slice-aggregate-result returns)

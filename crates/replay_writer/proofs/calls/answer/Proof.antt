@@ -5,8 +5,8 @@ use borrow.Author.Needs.{needs}
 use Rattle.replay_writer.proofs.calls.answer.Statement.{statement}
 use Rattle.replay_writer.proofs.calls.answer.Tie as tie
 
-least-requires : tie.Need-least-requires
-least-requires c κs = search needs
+min-requires : tie.Need-min-requires
+min-requires c κs = search needs
 
 slice-relend-prefix-on-flash : tie.Need-slice-relend-prefix-on-flash
 slice-relend-prefix-on-flash c = search needs
@@ -27,7 +27,7 @@ pub answer-spec : {M : Type 1} → statement M
 answer-spec =
     tie.close
     (tie.spec
-    least-requires
+    min-requires
     slice-relend-prefix-on-flash
     slice-aggregate-on-flash
     on-flash-requires

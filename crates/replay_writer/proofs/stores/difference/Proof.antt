@@ -13,8 +13,8 @@ Inv-loop a b n from₀ end₀ i₀ from end i = (n ≤ length a) × (n ≤ lengt
 abbrev μ-loop : tie.MeasureT-loop
 μ-loop a b n from₀ end₀ i₀ from end i = n - i
 
-least-requires : tie.Need-least-requires Inv-loop μ-loop
-least-requires c κs = search needs
+min-requires : tie.Need-min-requires Inv-loop μ-loop
+min-requires c κs = search needs
 
 loop-holds : tie.Need-loop-holds Inv-loop μ-loop
 loop-holds c = omega arith
@@ -25,8 +25,8 @@ shared-slice-read-if1 c = omega arith
 shared-slice-read-if1-2 : tie.Need-shared-slice-read-if1-2 Inv-loop μ-loop
 shared-slice-read-if1-2 c = omega arith
 
-least-requires-2 : tie.Need-least-requires-2 Inv-loop μ-loop
-least-requires-2 c κs = search needs
+min-requires-2 : tie.Need-min-requires-2 Inv-loop μ-loop
+min-requires-2 c κs = search needs
 
 add-end : tie.Need-add-end Inv-loop μ-loop
 add-end c = omega arith
@@ -49,11 +49,11 @@ difference-spec =
     (tie.spec
     Inv-loop
     μ-loop
-    least-requires
+    min-requires
     loop-holds
     shared-slice-read-if1
     shared-slice-read-if1-2
-    least-requires-2
+    min-requires-2
     add-end
     add-i
     loop-less

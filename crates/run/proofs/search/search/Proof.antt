@@ -5,14 +5,14 @@ use Prim.Native.Nat.{suc, _-_}
 use native.Mathlib.Omega.{arith}
 use lib.ListN.{length}
 use borrow.Author.Needs.{needs}
-use Rattle.run.specs.Search.{soughtIn}
+use Rattle.run.specs.Search.{searchIn}
 use Rattle.run.specs.declared.search.Sought.the-variants.{At}
 use Rattle.run.proofs.SearchLaws as laws
 use Rattle.run.proofs.search.search.Statement.{statement}
 use Rattle.run.proofs.search.search.Tie as tie
 
 abbrev Inv-loop : tie.InvT-loop
-Inv-loop run bound lower at₀ at = laws.Rest run bound lower at (soughtIn run bound lower)
+Inv-loop run bound lower at₀ at = laws.Rest run bound lower at (searchIn run bound lower)
 
 abbrev μ-loop : tie.MeasureT-loop
 μ-loop run bound lower at₀ at = length run - at
@@ -21,7 +21,7 @@ enum-told : tie.Need-enum-told Inv-loop μ-loop
 enum-told c = search needs
 
 returns : tie.Need-returns Inv-loop μ-loop
-unfolding soughtIn
+unfolding searchIn
 returns c = rw (c .enum-told .given .1)
 
 loop-holds : tie.Need-loop-holds Inv-loop μ-loop

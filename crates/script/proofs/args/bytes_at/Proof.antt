@@ -3,8 +3,8 @@ use Rattle.script.proofs.ArgLaws.{bytes-of}
 use Rattle.script.proofs.args.bytes_at.Statement.{statement}
 use Rattle.script.proofs.args.bytes_at.Tie as tie
 
-word-at-requires : tie.Need-word-at-requires
-word-at-requires c κs = search needs
+nth-word-requires : tie.Need-nth-word-requires
+nth-word-requires c κs = search needs
 
 bytes-in-requires : tie.Need-bytes-in-requires
 bytes-in-requires c κs = search needs
@@ -13,7 +13,7 @@ same-length : tie.Need-same-length
 same-length c = search needs
 
 returns : tie.Need-returns
-returns c = bytes-of (c .before .before .before .before .before .before .before .args .buffer .now) (c .before .before .before .before .word-at .ensures) (c .before .before .bytes-in .ensures)
+returns c = bytes-of (c .before .before .before .before .before .before .before .args .buffer .now) (c .before .before .before .before .nth-word .ensures) (c .before .before .bytes-in .ensures)
 
 pub bytes-at-spec : {M : Type 1} → statement M
-bytes-at-spec = tie.close (tie.spec word-at-requires bytes-in-requires same-length returns)
+bytes-at-spec = tie.close (tie.spec nth-word-requires bytes-in-requires same-length returns)

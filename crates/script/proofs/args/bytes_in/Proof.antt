@@ -20,8 +20,8 @@ returns-2 c =
 decode-requires : tie.Need-decode-requires
 decode-requires c κs = search needs
 
-count-of-requires : tie.Need-count-of-requires
-count-of-requires c κs = search needs
+decoded-count-requires : tie.Need-decoded-count-requires
+decoded-count-requires c κs = search needs
 
 same-length : tie.Need-same-length
 same-length c = search needs
@@ -32,7 +32,7 @@ returns-3 c =
     let coded = decoding .decode .ensures in
     let asked = decoding .before .before in
     let a = asked .before .before .before .before .before .args in
-    bytes-pairs (a .word .now) (a .buffer .now) (sym (asked .before .before .is-dash .ensures) ∙ asked .before .if1 .left) (asked .if2 .left) (coded .0) (coded .1) (c .count-of .ensures)
+    bytes-pairs (a .word .now) (a .buffer .now) (sym (asked .before .before .is-dash .ensures) ∙ asked .before .if1 .left) (asked .if2 .left) (coded .0) (coded .1) (c .decoded-count .ensures)
 
 pub bytes-in-spec : {M : Type 1} → statement M
 bytes-in-spec =
@@ -42,6 +42,6 @@ bytes-in-spec =
     returns
     returns-2
     decode-requires
-    count-of-requires
+    decoded-count-requires
     same-length
     returns-3)

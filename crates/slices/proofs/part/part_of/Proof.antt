@@ -6,14 +6,14 @@ use borrow.Author.Needs.{needs}
 use Rattle.slices.proofs.part.part_of.Statement.{statement}
 use Rattle.slices.proofs.part.part_of.Tie as tie
 
-least-requires : tie.Need-least-requires
-least-requires c κs = search needs
+min-requires : tie.Need-min-requires
+min-requires c κs = search needs
 
-less-requires : tie.Need-less-requires
-less-requires c κs = search needs
+minus-requires : tie.Need-minus-requires
+minus-requires c κs = search needs
 
-least-requires-2 : tie.Need-least-requires-2
-least-requires-2 c κs = search needs
+min-requires-2 : tie.Need-min-requires-2
+min-requires-2 c κs = search needs
 
 add-end : tie.Need-add-end
 add-end c = search needs
@@ -30,17 +30,17 @@ part-result-end c = search needs
 returns : tie.Need-returns
 returns c =
     let a = c .before .before .before .before .before .args in
-    let start = c .before .before .before .least .result in
-    part-lent (a .bytes .now) (a .from) (a .count) start (start + c .before .least2 .result) (c .before .before .before .least .ensures)
-    (ap (λ (n : ℕ). start + n) (c .before .least2 .ensures ∙ ap (min (a .count)) (c .before .before .less .ensures)))
+    let start = c .before .before .before .min .result in
+    part-lent (a .bytes .now) (a .from) (a .count) start (start + c .before .min2 .result) (c .before .before .before .min .ensures)
+    (ap (λ (n : ℕ). start + n) (c .before .min2 .ensures ∙ ap (min (a .count)) (c .before .before .minus .ensures)))
 
 pub part-of-spec : {M : Type 1} → statement M
 part-of-spec =
     tie.close
     (tie.spec
-    least-requires
-    less-requires
-    least-requires-2
+    min-requires
+    minus-requires
+    min-requires-2
     add-end
     sub-result
     part-result-start

@@ -5,15 +5,15 @@ use Rattle.slices.specs.Parts.{partTo}
 use Rattle.slices.proofs.part.part_to.Statement.{statement}
 use Rattle.slices.proofs.part.part_to.Tie as tie
 
-less-requires : tie.Need-less-requires
-less-requires c κs = search needs
+minus-requires : tie.Need-minus-requires
+minus-requires c κs = search needs
 
 part-of-requires : tie.Need-part-of-requires
 part-of-requires c κs = search needs
 
 returns : tie.Need-returns
 unfolding partTo
-returns c = c .part-of .ensures ∙ rw (c .before .less .ensures)
+returns c = c .part-of .ensures ∙ rw (c .before .minus .ensures)
 
 pub part-to-spec : {M : Type 1} → statement M
-part-to-spec = tie.close (tie.spec less-requires part-of-requires returns)
+part-to-spec = tie.close (tie.spec minus-requires part-of-requires returns)

@@ -16,13 +16,13 @@ Inv-loop part₀ bytes n i₀ part i = (i ≤ n) × ((n ≡ min (length bytes) (
 abbrev μ-loop : tie.MeasureT-loop
 μ-loop part₀ bytes n i₀ part i = n - i
 
-least-requires : tie.Need-least-requires Inv-loop μ-loop
-least-requires c κs = search needs
+min-requires : tie.Need-min-requires Inv-loop μ-loop
+min-requires c κs = search needs
 
 loop-holds : tie.Need-loop-holds Inv-loop μ-loop
 loop-holds c =
     let a = c .before .before .before .args in
-    (omega arith, (c .least .ensures, (refl, put-start (a .bytes .now) (a .part .now))))
+    (omega arith, (c .min .ensures, (refl, put-start (a .bytes .now) (a .part .now))))
 
 shared-slice-read-part : tie.Need-shared-slice-read-part Inv-loop μ-loop
 shared-slice-read-part c = omega arith
@@ -65,7 +65,7 @@ put-spec =
     (tie.spec
     Inv-loop
     μ-loop
-    least-requires
+    min-requires
     loop-holds
     shared-slice-read-part
     slice-write-part

@@ -1,4 +1,4 @@
--- `utf8::character::byte_at` meets its contract. Assumes nothing.
+-- `utf8::character::byte_at` reads the byte where there is one, and 0 past the end. Assumes nothing.
 use borrow.Author.Needs.{needs}
 use Rattle.utf8.proofs.CharacterLaws.{past-end}
 use Rattle.utf8.proofs.character.byte_at.Statement.{statement}

@@ -21,38 +21,38 @@ crc32-requires c κs = search needs
 put32-requires-3 : tie.Need-put32-requires-3
 put32-requires-3 c κs = search needs
 
-slice-aggregate-lay : tie.Need-slice-aggregate-lay
-slice-aggregate-lay c = search needs
+slice-aggregate-put-at : tie.Need-slice-aggregate-put-at
+slice-aggregate-put-at c = search needs
 
-slice-aggregate-lay-2 : tie.Need-slice-aggregate-lay-2
-slice-aggregate-lay-2 c = search needs
+slice-aggregate-put-at-2 : tie.Need-slice-aggregate-put-at-2
+slice-aggregate-put-at-2 c = search needs
 
-lay-requires : tie.Need-lay-requires
-lay-requires c κs = search needs
+put-at-requires : tie.Need-put-at-requires
+put-at-requires c κs = search needs
 
-slice-aggregate-lay-3 : tie.Need-slice-aggregate-lay-3
-slice-aggregate-lay-3 c = search needs
+slice-aggregate-put-at-3 : tie.Need-slice-aggregate-put-at-3
+slice-aggregate-put-at-3 c = search needs
 
-slice-aggregate-lay-4 : tie.Need-slice-aggregate-lay-4
-slice-aggregate-lay-4 c = search needs
+slice-aggregate-put-at-4 : tie.Need-slice-aggregate-put-at-4
+slice-aggregate-put-at-4 c = search needs
 
-lay-requires-2 : tie.Need-lay-requires-2
-lay-requires-2 c κs = search needs
+put-at-requires-2 : tie.Need-put-at-requires-2
+put-at-requires-2 c κs = search needs
 
-slice-aggregate-lay-5 : tie.Need-slice-aggregate-lay-5
-slice-aggregate-lay-5 c = search needs
+slice-aggregate-put-at-5 : tie.Need-slice-aggregate-put-at-5
+slice-aggregate-put-at-5 c = search needs
 
-slice-aggregate-lay-6 : tie.Need-slice-aggregate-lay-6
-slice-aggregate-lay-6 c = search needs
+slice-aggregate-put-at-6 : tie.Need-slice-aggregate-put-at-6
+slice-aggregate-put-at-6 c = search needs
 
-lay-requires-3 : tie.Need-lay-requires-3
-lay-requires-3 c κs = search needs
+put-at-requires-3 : tie.Need-put-at-requires-3
+put-at-requires-3 c κs = search needs
 
-slice-aggregate-lay-7 : tie.Need-slice-aggregate-lay-7
-slice-aggregate-lay-7 c = search needs
+slice-aggregate-put-at-7 : tie.Need-slice-aggregate-put-at-7
+slice-aggregate-put-at-7 c = search needs
 
-lay-requires-4 : tie.Need-lay-requires-4
-lay-requires-4 c κs = search needs
+put-at-requires-4 : tie.Need-put-at-requires-4
+put-at-requires-4 c κs = search needs
 
 returns : tie.Need-returns
 unfolding blank
@@ -66,8 +66,8 @@ returns c =
     let page-bytes = crc .before in
     let magic-bytes = page-bytes .before .before in
     let a = magic-bytes .before .before .args in
-    header .lay4 .ensures
-    ∙ rw (sum .lay3 .ensures, page .lay2 .ensures, magic .lay .ensures)
+    header .put-at4 .ensures
+    ∙ rw (sum .put-at3 .ensures, page .put-at2 .ensures, magic .put-at .ensures)
     (rw (sum-bytes .put323 .ensures, crc .crc32 .ensures, page-bytes .put322 .ensures, magic-bytes .put32 .ensures)
     (room-laid (a .magic) (a .page .0) (a .header .now)))
 
@@ -80,15 +80,15 @@ page-header-spec =
     put32-requires-2
     crc32-requires
     put32-requires-3
-    slice-aggregate-lay
-    slice-aggregate-lay-2
-    lay-requires
-    slice-aggregate-lay-3
-    slice-aggregate-lay-4
-    lay-requires-2
-    slice-aggregate-lay-5
-    slice-aggregate-lay-6
-    lay-requires-3
-    slice-aggregate-lay-7
-    lay-requires-4
+    slice-aggregate-put-at
+    slice-aggregate-put-at-2
+    put-at-requires
+    slice-aggregate-put-at-3
+    slice-aggregate-put-at-4
+    put-at-requires-2
+    slice-aggregate-put-at-5
+    slice-aggregate-put-at-6
+    put-at-requires-3
+    slice-aggregate-put-at-7
+    put-at-requires-4
     returns)

@@ -9,15 +9,15 @@ use Rattle.alloc.proofs.StateLaws.{page-below}
 use Rattle.alloc.proofs.allocator.Allocator.is_used.Statement.{statement}
 use Rattle.alloc.proofs.allocator.Allocator.is_used.Tie as tie
 
-page-check-requires : tie.Need-page-check-requires
-page-check-requires c κs = search needs
+check-page-requires : tie.Need-check-page-requires
+check-page-requires c κs = search needs
 
 enum-known-why : tie.Need-enum-known-why
 enum-known-why c = search needs
 
 returns : tie.Need-returns
 unfolding isUsed
-returns c = rw (sym (c .before .before .before .page-check .ensures) ∙ c .before .why .given .1)
+returns c = rw (sym (c .before .before .before .check-page .ensures) ∙ c .before .why .given .1)
 
 enum-told : tie.Need-enum-told
 enum-told c = search needs
@@ -30,7 +30,7 @@ abbrev page : tie.After-enum-told → PageID
 page c = c .before .before .before .args .page
 
 fine : (c : tie.After-enum-told) → pageCheck (self c) (page c) ≡ Fine
-fine c = sym (c .before .before .page-check .ensures) ∙ c .enum-told .given .1
+fine c = sym (c .before .before .check-page .ensures) ∙ c .enum-told .given .1
 
 index-requires : tie.Need-index-requires
 index-requires c κs = search needs
@@ -54,7 +54,7 @@ pub is-used-spec : {M : Type 1} → statement M
 is-used-spec =
     tie.close
     (tie.spec
-    page-check-requires
+    check-page-requires
     enum-known-why
     returns
     enum-told

@@ -12,8 +12,8 @@ use Rattle.alloc.proofs.StateLaws.{InRange, fine-wanted, used-le}
 use Rattle.alloc.proofs.allocator.Allocator.margin.Statement.{statement}
 use Rattle.alloc.proofs.allocator.Allocator.margin.Tie as tie
 
-wanted-check-requires : tie.Need-wanted-check-requires
-wanted-check-requires c κs = search needs
+check-wanted-requires : tie.Need-check-wanted-requires
+check-wanted-requires c κs = search needs
 
 enum-told : tie.Need-enum-told
 enum-told c = search needs
@@ -29,7 +29,7 @@ abbrev free : tie.After-struct-known → ℕ
 free c = self c .«page_count» - self c .used
 
 passed : (c : tie.After-struct-known) → wantedCheck (self c) (wanted c) ≡ Fine
-passed c = sym (c .before .before .before .wanted-check .ensures) ∙ c .before .enum-told .given .1
+passed c = sym (c .before .before .before .check-wanted .ensures) ∙ c .before .enum-told .given .1
 
 fine : (c : tie.After-struct-known) → (wanted c ≤ maxPageCount) × InRange (self c)
 fine c = fine-wanted (self c) (wanted c) (passed c)
@@ -58,13 +58,13 @@ returns c = rw (passed c, margin-read (free c) (wanted c) (few c) (fine c .0))
 
 returns-2 : tie.Need-returns-2
 unfolding marginOf
-returns-2 c = rw (sym (c .before .before .before .wanted-check .ensures) ∙ c .before .why .given .1)
+returns-2 c = rw (sym (c .before .before .before .check-wanted .ensures) ∙ c .before .why .given .1)
 
 pub margin-spec : {M : Type 1} → statement M
 margin-spec =
     tie.close
     (tie.spec
-    wanted-check-requires
+    check-wanted-requires
     enum-told
     sub-t6
     cast-t7

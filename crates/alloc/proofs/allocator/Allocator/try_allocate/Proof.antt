@@ -4,7 +4,7 @@ use Prim.Native.Nat.{_<_}
 use native.Mathlib.Omega.{arith}
 use borrow.Author.Needs.{needs}
 use Rattle.types.specs.declared.page_id.MaybePageID.the-variants.{Some}
-use Rattle.alloc.specs.Calls.{found, tryAllocate}
+use Rattle.alloc.specs.Calls.{nextFree, tryAllocate}
 use Rattle.alloc.specs.Checks.{stateCheck}
 use Rattle.alloc.specs.Marks.{isMarked}
 use Rattle.alloc.specs.declared.allocator.Allocator.{Allocator}
@@ -14,15 +14,15 @@ use Rattle.alloc.proofs.StateLaws.{InRange, fine-state, used-le, next-l
 use Rattle.alloc.proofs.allocator.Allocator.try_allocate.Statement.{statement}
 use Rattle.alloc.proofs.allocator.Allocator.try_allocate.Tie as tie
 
-state-check-requires : tie.Need-state-check-requires
-state-check-requires c κs = search needs
+check-state-requires : tie.Need-check-state-requires
+check-state-requires c κs = search needs
 
 enum-known-why : tie.Need-enum-known-why
 enum-known-why c = search needs
 
 returns : tie.Need-returns
 unfolding tryAllocate
-returns c = rw (sym (c .before .before .before .state-check .ensures) ∙ c .before .why .given .1)
+returns c = rw (sym (c .before .before .before .check-state .ensures) ∙ c .before .why .given .1)
 
 enum-told : tie.Need-enum-told
 enum-told c = search needs
@@ -32,7 +32,7 @@ abbrev self : tie.After-enum-told → Allocator
 self c = c .before .before .before .args .t1
 
 fine : (c : tie.After-enum-told) → stateCheck (self c) ≡ Fine
-fine c = sym (c .before .before .state-check .ensures) ∙ c .enum-told .given .1
+fine c = sym (c .before .before .check-state .ensures) ∙ c .enum-told .given .1
 
 known : (c : tie.After-enum-told) → InRange (self c)
 known c = fine-state (self c) (fine c)
@@ -59,7 +59,7 @@ index-requires c κs = search needs
 abbrev checked : tie.After-index → tie.After-enum-told
 checked c = c .before .before .before .before .before .before .before .before
 
-page-found : (c : tie.After-index) → found (self (checked c)) ≡ Some (c .before .before .page .given .0 .0)
+page-found : (c : tie.After-index) → nextFree (self (checked c)) ≡ Some (c .before .before .page .given .0 .0)
 page-found c = sym (c .before .before .before .before .first-free .ensures) ∙ c .before .before .page .given .1
 
 free-here : (c : tie.After-index)
@@ -86,7 +86,7 @@ pub try-allocate-spec : {M : Type 1} → statement M
 try-allocate-spec =
     tie.close
     (tie.spec
-    state-check-requires
+    check-state-requires
     enum-known-why
     returns
     enum-told

@@ -16,8 +16,8 @@ Inv-loop runs ends bound lower places₀ i₀ places i = (i ≤ length ends) × 
 abbrev μ-loop : tie.MeasureT-loop
 μ-loop runs ends bound lower places₀ i₀ places i = length ends - i
 
-new-check-requires : tie.Need-new-check-requires Inv-loop μ-loop
-new-check-requires c κs = search needs
+check-new-requires : tie.Need-check-new-requires Inv-loop μ-loop
+check-new-requires c κs = search needs
 
 enum-known-check : tie.Need-enum-known-check Inv-loop μ-loop
 enum-known-check c = search needs
@@ -26,7 +26,7 @@ refused-requires : tie.Need-refused-requires Inv-loop μ-loop
 refused-requires c κs = search needs
 
 returns : tie.Need-returns Inv-loop μ-loop
-returns c = c .refused .ensures ∙ laws.new-refused _ _ _ _ _ (c .before .before .before .before .new-check .ensures) _ (c .before .before .check .given .1)
+returns c = c .refused .ensures ∙ laws.new-refused _ _ _ _ _ (c .before .before .before .before .check-new .ensures) _ (c .before .before .check .given .1)
 
 enum-told : tie.Need-enum-told Inv-loop μ-loop
 enum-told c = search needs
@@ -34,8 +34,8 @@ enum-told c = search needs
 loop-holds : tie.Need-loop-holds Inv-loop μ-loop
 loop-holds c = (
   omega arith,
-  laws.new-few _ _ (sym (c .before .before .new-check .ensures) ∙ c .enum-told .given .1),
-  laws.new-fine _ _ _ _ _ (c .before .before .new-check .ensures) (c .enum-told .given .1),
+  laws.new-few _ _ (sym (c .before .before .check-new .ensures) ∙ c .enum-told .given .1),
+  laws.new-fine _ _ _ _ _ (c .before .before .check-new .ensures) (c .enum-told .given .1),
 )
 
 add-i : tie.Need-add-i Inv-loop μ-loop
@@ -115,7 +115,7 @@ new-spec =
     (tie.spec
     Inv-loop
     μ-loop
-    new-check-requires
+    check-new-requires
     enum-known-check
     refused-requires
     returns

@@ -5,20 +5,20 @@ use Rattle.cursor.proofs.CallLaws.{next-few, next-refused, next-settled
 use Rattle.cursor.proofs.place.Cursor.next.Statement.{statement}
 use Rattle.cursor.proofs.place.Cursor.next.Tie as tie
 
-next-check-requires : tie.Need-next-check-requires
-next-check-requires c κs = search needs
+check-next-requires : tie.Need-check-next-requires
+check-next-requires c κs = search needs
 
 enum-known-check : tie.Need-enum-known-check
 enum-known-check c = search needs
 
 returns : tie.Need-returns
-returns c = next-refused _ _ _ _ _ _ _ _ (c .before .before .before .next-check .ensures) _ (c .before .check .given .1)
+returns c = next-refused _ _ _ _ _ _ _ _ (c .before .before .before .check-next .ensures) _ (c .before .check .given .1)
 
 enum-told : tie.Need-enum-told
 enum-told c = search needs
 
 settle-requires : tie.Need-settle-requires
-settle-requires c κs = next-few _ _ _ (sym (c .before .before .next-check .ensures) ∙ c .enum-told .given .1)
+settle-requires c κs = next-few _ _ _ (sym (c .before .before .check-next .ensures) ∙ c .enum-told .given .1)
 
 deliver-requires : tie.Need-deliver-requires
 deliver-requires c κs = search needs
@@ -38,14 +38,14 @@ returns-2 c =
     let settled = delivered .before .before .before in
     let fine = settled .before in
     let checked = fine .before .before in
-    next-settled _ _ _ _ _ _ _ _ (checked .next-check .ensures) (fine .enum-told .given .1) _ (settled .settle .ensures)
+    next-settled _ _ _ _ _ _ _ _ (checked .check-next .ensures) (fine .enum-told .given .1) _ (settled .settle .ensures)
     _ (delivered .deliver .ensures .0) _ _ (delivered .deliver .ensures .1) _ (c .places-by .ensures)
 
 pub next-spec : {M : Type 1} → statement M
 next-spec =
     tie.close
     (tie.spec
-    next-check-requires
+    check-next-requires
     enum-known-check
     returns
     enum-told

@@ -21,8 +21,8 @@ enum-told c = search needs
 page-of-requires : tie.Need-page-of-requires
 page-of-requires c κs = search needs
 
-load-requires : tie.Need-load-requires
-load-requires c κs =
+ready-requires : tie.Need-ready-requires
+ready-requires c κs =
     let at-check-reader = c .before .before .before .before in
     let start = at-check-reader .before .before in
     let a = start .args in known-whole (a .self) (a .flash .now) (sym (at-check-reader .check-reader .ensures) ∙ c .before .before .enum-told .given .1)
@@ -41,29 +41,29 @@ returns-2 c =
     let start = at-check-reader .before .before in
     let a = start .args in
     eof-bad (a .self) (a .flash .now) (sym (at-check-reader .check-reader .ensures) ∙ at-enum-told .enum-told .given .1)
-    (rw (at-page-of .page-of .ensures) at (sym (c .before .before .load .ensures) ∙ c .enum-told2 .given .1))
+    (rw (at-page-of .page-of .ensures) at (sym (c .before .before .ready .ensures) ∙ c .enum-told2 .given .1))
 
 returns-3 : tie.Need-returns-3
 returns-3 c =
-    let at-load = c .before .before .before .before in
-    let at-page-of = at-load .before in
+    let at-ready = c .before .before .before .before in
+    let at-page-of = at-ready .before in
     let at-enum-told = at-page-of .before .before in
     let at-check-reader = at-enum-told .before .before in
     let start = at-check-reader .before .before in
     let a = start .args in
     eof-end (a .self) (a .flash .now) (sym (at-check-reader .check-reader .ensures) ∙ at-enum-told .enum-told .given .1) (c .before .before .r .given .0 .0)
-    (rw (at-page-of .page-of .ensures) at (sym (at-load .load .ensures) ∙ c .before .before .r .given .1)) (c .if1 .taken)
+    (rw (at-page-of .page-of .ensures) at (sym (at-ready .ready .ensures) ∙ c .before .before .r .given .1)) (c .if1 .taken)
 
 returns-4 : tie.Need-returns-4
 returns-4 c =
-    let at-load = c .before .before .before .before in
-    let at-page-of = at-load .before in
+    let at-ready = c .before .before .before .before in
+    let at-page-of = at-ready .before in
     let at-enum-told = at-page-of .before .before in
     let at-check-reader = at-enum-told .before .before in
     let start = at-check-reader .before .before in
     let a = start .args in
     eof-more (a .self) (a .flash .now) (sym (at-check-reader .check-reader .ensures) ∙ at-enum-told .enum-told .given .1) (c .before .before .r .given .0 .0)
-    (rw (at-page-of .page-of .ensures) at (sym (at-load .load .ensures) ∙ c .before .before .r .given .1)) (c .if1 .left)
+    (rw (at-page-of .page-of .ensures) at (sym (at-ready .ready .ensures) ∙ c .before .before .r .given .1)) (c .if1 .left)
 
 pub is-at-eof-spec : {M : Type 1} → statement M
 is-at-eof-spec =
@@ -74,7 +74,7 @@ is-at-eof-spec =
     returns
     enum-told
     page-of-requires
-    load-requires
+    ready-requires
     enum-known-r
     enum-told-2
     returns-2

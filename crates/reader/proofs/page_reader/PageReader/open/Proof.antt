@@ -34,11 +34,11 @@ returns-2 c =
 unread-of-requires : tie.Need-unread-of-requires
 unread-of-requires c κs = search needs
 
-add-arrive : tie.Need-add-arrive
-add-arrive c = search needs
+add-arriving : tie.Need-add-arriving
+add-arriving c = search needs
 
-arrive-requires : tie.Need-arrive-requires
-arrive-requires c κs = search needs
+arriving-requires : tie.Need-arriving-requires
+arriving-requires c κs = search needs
 
 enum-known-r : tie.Need-enum-known-r
 enum-known-r c = search needs
@@ -58,7 +58,7 @@ returns-3 c =
     let a = start .args in
     open-bad (a .flash .now) (a .magic) (a .page) (a .header .now) (sym (at-check-open .check-open .ensures) ∙ at-enum-told .enum-told .given .1)
     (rw (at-page-of .page-of .ensures) at (sym (at-page-header-fine .page-header-fine .ensures) ∙ not-false _ (at-if1 .if1 .left))) (a .self)
-    (rw (at-unread-of .unread-of .ensures, at-page-of .page-of .ensures) at (sym (c .before .before .arrive .ensures) ∙ c .enum-told2 .given .1))
+    (rw (at-unread-of .unread-of .ensures, at-page-of .page-of .ensures) at (sym (c .before .before .arriving .ensures) ∙ c .enum-told2 .given .1))
 
 header-of-requires : tie.Need-header-of-requires
 header-of-requires c κs = search needs
@@ -73,8 +73,8 @@ returns-4 : tie.Need-returns-4
 returns-4 c =
     let at-header-of = c .before .before .before in
     let at-r = at-header-of .before .before .before in
-    let at-arrive = at-r .before .before in
-    let at-unread-of = at-arrive .before in
+    let at-arriving = at-r .before .before in
+    let at-unread-of = at-arriving .before in
     let at-if1 = at-unread-of .before in
     let at-page-header-fine = at-if1 .before in
     let at-page-of = at-page-header-fine .before in
@@ -84,7 +84,7 @@ returns-4 c =
     let a = start .args in
     let k = open-at (a .flash .now) (a .magic) (a .page) (a .header .now) (sym (at-check-open .check-open .ensures) ∙ at-enum-told .enum-told .given .1)
     (rw (at-page-of .page-of .ensures) at (sym (at-page-header-fine .page-header-fine .ensures) ∙ not-false _ (at-if1 .if1 .left))) (a .self) (at-r .r .given .0 .0)
-    (rw (at-unread-of .unread-of .ensures, at-page-of .page-of .ensures) at (sym (at-arrive .arrive .ensures) ∙ at-r .r .given .1)) in
+    (rw (at-unread-of .unread-of .ensures, at-page-of .page-of .ensures) at (sym (at-arriving .arriving .ensures) ∙ at-r .r .given .1)) in
     (k .0, c .before .before .put .ensures ∙ rw (at-header-of .header-of .ensures, at-page-of .page-of .ensures) (k .1))
 
 pub open-spec : {M : Type 1} → statement M
@@ -99,8 +99,8 @@ open-spec =
     page-header-fine-requires
     returns-2
     unread-of-requires
-    add-arrive
-    arrive-requires
+    add-arriving
+    arriving-requires
     enum-known-r
     enum-told-2
     returns-3

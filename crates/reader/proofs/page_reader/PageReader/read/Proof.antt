@@ -23,8 +23,8 @@ enum-told c = search needs
 page-of-requires : tie.Need-page-of-requires
 page-of-requires c κs = search needs
 
-load-requires : tie.Need-load-requires
-load-requires c κs =
+ready-requires : tie.Need-ready-requires
+ready-requires c κs =
     let at-check-reader = c .before .before .before .before in
     let start = at-check-reader .before .before .before in
     let a = start .args in known-whole (a .self) (a .flash .now) (sym (at-check-reader .check-reader .ensures) ∙ c .before .before .enum-told .given .1)
@@ -43,31 +43,31 @@ returns-2 c =
     let start = at-check-reader .before .before .before in
     let a = start .args in
     read-bad (a .self) (a .flash .now) (sym (at-check-reader .check-reader .ensures) ∙ at-enum-told .enum-told .given .1) (a .buffer .now)
-    (rw (at-page-of .page-of .ensures) at (sym (c .before .before .load .ensures) ∙ c .enum-told2 .given .1))
+    (rw (at-page-of .page-of .ensures) at (sym (c .before .before .ready .ensures) ∙ c .enum-told2 .given .1))
 
 rest-of-requires : tie.Need-rest-of-requires
 rest-of-requires c κs = search needs
 
-least-requires : tie.Need-least-requires
-least-requires c κs = search needs
+min-requires : tie.Need-min-requires
+min-requires c κs = search needs
 
 put-requires : tie.Need-put-requires
 put-requires c κs = search needs
 
-step-past-requires : tie.Need-step-past-requires
-step-past-requires c κs =
-    let at-least = c .before .before .before .before in
-    let at-rest-of = at-least .before in
+past-requires : tie.Need-past-requires
+past-requires c κs =
+    let at-min = c .before .before .before .before in
+    let at-rest-of = at-min .before in
     let at-r = at-rest-of .before .before in
-    let at-load = at-r .before .before in
-    let at-page-of = at-load .before in
+    let at-ready = at-r .before .before in
+    let at-page-of = at-ready .before in
     let at-enum-told = at-page-of .before .before in
     let at-check-reader = at-enum-told .before .before in
     let start = at-check-reader .before .before .before in
     let a = start .args in
-    read-stays (a .self) (a .flash .now) (sym (at-check-reader .check-reader .ensures) ∙ at-enum-told .enum-told .given .1) (at-r .r .given .0 .0) (at-least .least .result) (length (a .buffer .now))
-    (rw (at-page-of .page-of .ensures) at (sym (at-load .load .ensures) ∙ at-r .r .given .1))
-    (rw (at-rest-of .rest-of .ensures, at-page-of .page-of .ensures) at (at-least .least .ensures)) (omega (arith, start .good .0))
+    read-stays (a .self) (a .flash .now) (sym (at-check-reader .check-reader .ensures) ∙ at-enum-told .enum-told .given .1) (at-r .r .given .0 .0) (at-min .min .result) (length (a .buffer .now))
+    (rw (at-page-of .page-of .ensures) at (sym (at-ready .ready .ensures) ∙ at-r .r .given .1))
+    (rw (at-rest-of .rest-of .ensures, at-page-of .page-of .ensures) at (at-min .min .ensures)) (omega (arith, start .good .0))
 
 same-length : tie.Need-same-length
 same-length c = search needs
@@ -75,19 +75,19 @@ same-length c = search needs
 returns-3 : tie.Need-returns-3
 returns-3 c =
     let at-put = c .before .before .before in
-    let at-least = at-put .before .before in
-    let at-rest-of = at-least .before in
+    let at-min = at-put .before .before in
+    let at-rest-of = at-min .before in
     let at-r = at-rest-of .before .before in
-    let at-load = at-r .before .before in
-    let at-page-of = at-load .before in
+    let at-ready = at-r .before .before in
+    let at-page-of = at-ready .before in
     let at-enum-told = at-page-of .before .before in
     let at-check-reader = at-enum-told .before .before in
     let start = at-check-reader .before .before .before in
     let a = start .args in
-    let k = read-at (a .self) (a .flash .now) (sym (at-check-reader .check-reader .ensures) ∙ at-enum-told .enum-told .given .1) (a .buffer .now) (at-r .r .given .0 .0) (at-least .least .result)
-    (rw (at-page-of .page-of .ensures) at (sym (at-load .load .ensures) ∙ at-r .r .given .1))
-    (rw (at-rest-of .rest-of .ensures, at-page-of .page-of .ensures) at (at-least .least .ensures)) in
-    (rw (c .step-past .ensures) (k .0), at-put .put .ensures ∙ rw (at-rest-of .rest-of .ensures, at-page-of .page-of .ensures) (k .1))
+    let k = read-at (a .self) (a .flash .now) (sym (at-check-reader .check-reader .ensures) ∙ at-enum-told .enum-told .given .1) (a .buffer .now) (at-r .r .given .0 .0) (at-min .min .result)
+    (rw (at-page-of .page-of .ensures) at (sym (at-ready .ready .ensures) ∙ at-r .r .given .1))
+    (rw (at-rest-of .rest-of .ensures, at-page-of .page-of .ensures) at (at-min .min .ensures)) in
+    (rw (c .past .ensures) (k .0), at-put .put .ensures ∙ rw (at-rest-of .rest-of .ensures, at-page-of .page-of .ensures) (k .1))
 
 pub read-spec : {M : Type 1} → statement M
 read-spec =
@@ -98,13 +98,13 @@ read-spec =
     returns
     enum-told
     page-of-requires
-    load-requires
+    ready-requires
     enum-known-r
     enum-told-2
     returns-2
     rest-of-requires
-    least-requires
+    min-requires
     put-requires
-    step-past-requires
+    past-requires
     same-length
     returns-3)

@@ -22,8 +22,8 @@ enum-told c = search needs
 page-of-requires : tie.Need-page-of-requires
 page-of-requires c κs = search needs
 
-pass-requires : tie.Need-pass-requires
-pass-requires c κs =
+skipped-requires : tie.Need-skipped-requires
+skipped-requires c κs =
     let at-check-reader = c .before .before .before .before in
     let start = at-check-reader .before .before in
     let a = start .args in known-whole (a .self) (a .flash .now) (sym (at-check-reader .check-reader .ensures) ∙ c .before .before .enum-told .given .1)
@@ -36,11 +36,12 @@ enum-known-reader c = search needs
 
 sub-t16 : tie.Need-sub-t16
 sub-t16 c =
-    let at-pass = c .before .before .before in
-    let at-page-of = at-pass .before in
+    let at-skipped = c .before .before .before in
+    let at-page-of = at-skipped .before in
     let start = at-page-of .before .before .before .before .before .before in
     let a = start .args in
-    skip-left (at-page-of .page-of .result .now) (a .count) (a .self) (c .before .reader .given .0 .0) (c .before .reader .given .0 .1 .0) (sym (at-pass .pass .ensures) ∙ c .before .reader .given .1)
+    skip-left (at-page-of .page-of .result .now) (a .count) (a .self) (c .before .reader .given .0 .0) (c .before .reader .given .0 .1 .0)
+    (sym (at-skipped .skipped .ensures) ∙ c .before .reader .given .1)
 
 returns-2 : tie.Need-returns-2
 returns-2 c =
@@ -50,18 +51,18 @@ returns-2 c =
     let start = at-check-reader .before .before in
     let a = start .args in
     skip-spoilt (a .self) (a .flash .now) (sym (at-check-reader .check-reader .ensures) ∙ at-enum-told .enum-told .given .1) (a .count)
-    (rw (at-page-of .page-of .ensures) at (sym (c .before .before .pass .ensures) ∙ c .enum-told2 .given .1))
+    (rw (at-page-of .page-of .ensures) at (sym (c .before .before .skipped .ensures) ∙ c .enum-told2 .given .1))
 
 returns-3 : tie.Need-returns-3
 returns-3 c =
-    let at-pass = c .before .before .before in
-    let at-page-of = at-pass .before in
+    let at-skipped = c .before .before .before in
+    let at-page-of = at-skipped .before in
     let at-enum-told = at-page-of .before .before in
     let at-check-reader = at-enum-told .before .before in
     let start = at-check-reader .before .before in
     let a = start .args in
     skip-to (a .self) (a .flash .now) (sym (at-check-reader .check-reader .ensures) ∙ at-enum-told .enum-told .given .1) (a .count) (c .before .reader .given .0 .1 .0) (c .before .reader .given .0 .0)
-    (rw (at-page-of .page-of .ensures) at (sym (at-pass .pass .ensures) ∙ c .before .reader .given .1))
+    (rw (at-page-of .page-of .ensures) at (sym (at-skipped .skipped .ensures) ∙ c .before .reader .given .1))
 
 pub skip-spec : {M : Type 1} → statement M
 skip-spec =
@@ -72,7 +73,7 @@ skip-spec =
     returns
     enum-told
     page-of-requires
-    pass-requires
+    skipped-requires
     enum-told-2
     enum-known-reader
     sub-t16

@@ -5,7 +5,7 @@ use lib.ListN.{length}
 use Rattle.types.specs.Build.{eraseValue}
 use Rattle.types.specs.declared.refusal.Verdict.the-variants.{Fine}
 use Rattle.writer.specs.Duties.{commitDuty}
-use Rattle.writer.specs.Verdicts.{writerVerdict}
+use Rattle.writer.specs.Checks.{writerCheck}
 use Rattle.writer.proofs.CheckLaws.{Passed, writer-passed, Sound, sound, small}
 use Rattle.writer.proofs.CommitLaws.{commit-none, commit-some}
 use Rattle.writer.proofs.LiesOnLaws.{commit-lies}
@@ -38,7 +38,7 @@ start c = c .before .before .before .before
 four : (c : tie.Start) → length (c .args .self .buf) ≡ 4
 four c = search needs
 
-fine : (c : tie.After-enum-told) → writerVerdict (length (start c .args .flash .now)) (start c .args .self) ≡ Fine
+fine : (c : tie.After-enum-told) → writerCheck (length (start c .args .flash .now)) (start c .args .self) ≡ Fine
 fine c = sym (c .before .before .check-writer .ensures) ∙ c .enum-told .given .1
 
 passed : (c : tie.After-enum-told) → Passed (length (start c .args .flash .now)) (start c .args .self)
@@ -68,8 +68,8 @@ next-chunk-requires c κs =
     let k = known (some .before .before) in
     (k .within, small _ k)
 
-came-requires : tie.Need-came-requires
-came-requires c κs = search needs
+ended-by-requires : tie.Need-ended-by-requires
+ended-by-requires c κs = search needs
 
 same-length : tie.Need-same-length
 same-length c = search needs
@@ -82,8 +82,8 @@ returns-3 c =
     let checked = some .before .before in
     let a = start checked .args in
     commit-some eraseValue (a .self) (a .left) (a .flash .now) (fine checked)
-    (finished .finish-chunk .result) (finished .finish-chunk .last .1 .1 .0) (moved .next-chunk .result) (c .came .result)
-    (some .if1 .left) (finished .finish-chunk .ensures) (moved .next-chunk .ensures) (c .came .ensures)
+    (finished .finish-chunk .result) (finished .finish-chunk .last .1 .1 .0) (moved .next-chunk .result) (c .ended-by .result)
+    (some .if1 .left) (finished .finish-chunk .ensures) (moved .next-chunk .ensures) (c .ended-by .ensures)
 
 pub commit-spec : {M : Type 1} → statement M
 commit-spec =
@@ -96,6 +96,6 @@ commit-spec =
     returns-2
     finish-chunk-requires
     next-chunk-requires
-    came-requires
+    ended-by-requires
     same-length
     returns-3)

@@ -6,7 +6,7 @@ use Prim.Native.Nat.{_+_, _≤_}
 use lib.ListN.{length, take, length-take}
 use Rattle.types.specs.Build.{maxChunkSize, eraseValue}
 use Rattle.types.specs.declared.refusal.Verdict.the-variants.{Fine}
-use Rattle.writer.specs.Verdicts.{writerVerdict}
+use Rattle.writer.specs.Checks.{writerCheck}
 use Rattle.writer.proofs.CheckLaws.{Passed, writer-passed, Sound, sound, small, total-small}
 use Rattle.writer.proofs.LiesOnLaws.{write-lies}
 use Rattle.writer.proofs.WriteLaws.{taken-fits, grown-fits, write-refused, write-none, write-some}
@@ -38,7 +38,7 @@ start c = c .before .before .before .before .before
 four : (c : tie.Start) → length (c .args .self .buf) ≡ 4
 four c = search needs
 
-fine : (c : tie.After-enum-told) → writerVerdict (length (start c .args .flash .now)) (start c .args .self) ≡ Fine
+fine : (c : tie.After-enum-told) → writerCheck (length (start c .args .flash .now)) (start c .args .self) ≡ Fine
 fine c = sym (c .before .before .check-writer .ensures) ∙ c .enum-told .given .1
 
 passed : (c : tie.After-enum-told) → Passed (length (start c .args .flash .now)) (start c .args .self)
@@ -90,8 +90,8 @@ closed-requires c κs =
     let counted = grown .before .before .before in
     grown-fits _ _ _ (grown .grown .ensures) (known (counted .before) .within) (fits counted)
 
-came-requires : tie.Need-came-requires
-came-requires c κs = search needs
+ended-by-requires : tie.Need-ended-by-requires
+ended-by-requires c κs = search needs
 
 wrote-requires : tie.Need-wrote-requires
 wrote-requires c κs = search needs
@@ -111,8 +111,8 @@ returns-3 c =
     let a = start checked .args in
     write-some eraseValue (a .self) (a .bytes .now) (a .left) (a .flash .now)
     (counted .takes .result) (run .take-bytes .result) (run .take-bytes .last .1 .1 .0) (grown .grown .result) (closed .closed .result)
-    (ended .came .result) (c .wrote .result) (fine checked) (counted .takes .ensures) (some .if1 .left)
-    (grown .grown .ensures) (run .take-bytes .ensures) (closed .closed .ensures) (ended .came .ensures) (c .wrote .ensures)
+    (ended .ended-by .result) (c .wrote .result) (fine checked) (counted .takes .ensures) (some .if1 .left)
+    (grown .grown .ensures) (run .take-bytes .ensures) (closed .closed .ensures) (ended .ended-by .ensures) (c .wrote .ensures)
 
 pub write-spec : {M : Type 1} → statement M
 write-spec =
@@ -128,7 +128,7 @@ write-spec =
     grown-requires
     take-bytes-requires
     closed-requires
-    came-requires
+    ended-by-requires
     wrote-requires
     same-length
     returns-3)

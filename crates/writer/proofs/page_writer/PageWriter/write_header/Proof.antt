@@ -5,7 +5,7 @@ use lib.ListN.{length}
 use Rattle.types.specs.Build.{eraseValue}
 use Rattle.types.specs.declared.refusal.Verdict.the-variants.{Fine}
 use Rattle.writer.specs.Duties.{headingDuty}
-use Rattle.writer.specs.Verdicts.{headingVerdict}
+use Rattle.writer.specs.Checks.{headingCheck}
 use Rattle.writer.proofs.CheckLaws.{heading-passed, header-facts}
 use Rattle.writer.proofs.LiesOnLaws.{header-lies}
 use Rattle.writer.proofs.OutcomeLaws.{ends-refused, ends-ran}
@@ -35,7 +35,7 @@ abbrev start : tie.After-enum-told → tie.Start
 start c = c .before .before .before .before .before
 
 fine : (c : tie.After-enum-told)
-    → headingVerdict (length (start c .args .flash .now)) (start c .args .self) (length (start c .args .header .now)) ≡ Fine
+    → headingCheck (length (start c .args .flash .now)) (start c .args .self) (length (start c .args .header .now)) ≡ Fine
 fine c = sym (c .before .before .check-heading .ensures) ∙ c .enum-told .given .1
 
 head-page-requires : tie.Need-head-page-requires
@@ -46,8 +46,8 @@ head-page-requires c κs =
     let short = header-facts _ (passed .1 .1) .1 in
     (short, header-lies eraseValue (length (a .flash .now)) (a .self) (a .magic) (a .header .now) (passed .0) short)
 
-came-requires : tie.Need-came-requires
-came-requires c κs = search needs
+ended-by-requires : tie.Need-ended-by-requires
+ended-by-requires c κs = search needs
 
 same-length : tie.Need-same-length
 same-length c = search needs
@@ -60,7 +60,7 @@ returns-2 c =
     let duty = headingDuty eraseValue (a .flash .now) (a .self) (a .magic) (a .header .now) in
     let q = ends-ran duty (a .self) (a .left) (a .flash .now) (headed .head-page .result) (headed .head-page .last .1 .0) (fine checked)
     (headed .head-page .ensures) in
-    (c .came .ensures ∙ q .0, q .1)
+    (c .ended-by .ensures ∙ q .0, q .1)
 
 pub write-header-spec : {M : Type 1} → statement M
 write-header-spec =
@@ -71,6 +71,6 @@ write-header-spec =
     returns
     enum-told
     head-page-requires
-    came-requires
+    ended-by-requires
     same-length
     returns-2)
