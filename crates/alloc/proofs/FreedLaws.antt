@@ -11,6 +11,7 @@ use borrow.Author.Tests.{lt-ltb}
 use Rattle.types.specs.declared.page_id.PageID.{PageID}
 use Rattle.types.specs.declared.page_id.MaybePageID.{MaybePageID}
 use Rattle.types.specs.declared.page_id.MaybePageID.the-variants as maybe
+use Rattle.types.proofs.HistoryLaws.{leftAfter-none, leftAfter-more}
 use Rattle.types.proofs.TestLaws.{eq-or-ne}
 use Rattle.alloc.specs.Calls as calls
 use Rattle.alloc.specs.Calls.{nextFree, handingOut}
@@ -81,7 +82,7 @@ not-full a p s below f full = false≢true (sym f ∙ full-says a (s .0) (s .1) 
 -- a page that is free is handed out before the free pages have run out
 pub comes-round : (m : ℕ) (a : Allocator) (p : ℕ) → Sound a → p < a .«page_count» → isMarked (a .pages) p ≡ false → a .«page_count» ≤ a .used + m
     → (k : ℕ) × ((k < m) × (calls.tryAllocate (leftAfter a (replicate k tryAllocate)) .answer ≡ Page (record { 0 = p })))
-unfolding leftAfter leftBy
+unfolding leftBy
 comes-round zero a p s below f h = absurd (not-full a p s below f (omega (arith, used-le a (s .1))))
 comes-round (suc m) a p s below f h = ⊎-elim (λ e. absurd (never e)) (λ q. out (q .0) (q .1) (comes-round m b p (kept a tryAllocate s))) (page-or-none a s)
   where
@@ -98,10 +99,10 @@ comes-round (suc m) a p s below f h = ⊎-elim (λ e. absurd (never e)) (λ q. o
     out page e rest =
         let o : HandedOut a (page .0) b = handed-out a page (s .0) e in
         ⊎-elim
-        (λ same. (0, (omega arith, e ∙ ap (λ (x : ℕ). Page (record { 0 = x })) same)))
+        (λ same. (0, (omega arith, rw (leftAfter-none leftBy a) (e ∙ ap (λ (x : ℕ). Page (record { 0 = x })) same))))
         (λ n.
         let r = rest (omega (arith, o .same)) (o .others p (λ q. n (sym q)) ∙ f) (omega (arith, o .same, o .counted)) in
-        (suc (r .0), (omega (arith, r .1 .0), r .1 .1)))
+        (suc (r .0), (omega (arith, r .1 .0), rw (leftAfter-more leftBy a tryAllocate (replicate (r .0) tryAllocate)) (r .1 .1))))
         (eq-or-ne (page .0) p)
 
 -- a page that was freed is handed out again too

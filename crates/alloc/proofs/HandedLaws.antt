@@ -5,10 +5,11 @@ use Prim.Native.Nat.{ℕ, _+_, _*_, _%_, _≤_, _<_}
 use native.Mathlib.Omega.{arith}
 use lib.ListN.{length, getD, set}
 use lib.Seq.{getD-set-same, getD-set-other}
+use Rattle.types.specs.Checks.{refusedOr}
 use Rattle.types.specs.declared.page_id.PageID.{PageID}
 use Rattle.types.specs.declared.page_id.MaybePageID.{MaybePageID}
 use Rattle.types.specs.declared.page_id.MaybePageID.the-variants as maybe
-use Rattle.alloc.specs.Calls.{nextFree, tryAllocate, handingOut, allocationAfter}
+use Rattle.alloc.specs.Calls.{nextFree, tryAllocate, handingOut, refusedAllocation}
 use Rattle.alloc.specs.Checks.{stateCheck}
 use Rattle.alloc.specs.Marks.{marksOf, isMarked, marking}
 use Rattle.alloc.specs.Search.{roundFrom}
@@ -21,7 +22,8 @@ use Rattle.alloc.proofs.FirstLaws.{First, first-says, says-first, lengt
 use Rattle.alloc.proofs.MarksLaws.{length-marksOf, marksOf-marking}
 use Rattle.alloc.proofs.StateLaws.{InRange, fine-state, state-fine, next-le}
 
-page-after : (k : Verdict) (a : Allocator) (m : MaybePageID) (page : PageID) → allocationAfter k a (handingOut a m) .answer ≡ Page page → (k ≡ Fine) × (m ≡ maybe.Some page)
+page-after : (k : Verdict) (a : Allocator) (m : MaybePageID) (page : PageID) → refusedOr k (refusedAllocation a) (handingOut a m) .answer ≡ Page page
+    → (k ≡ Fine) × (m ≡ maybe.Some page)
 page-after (Refused why) a m page e = let z : _≡_ {A = ℕ} 0 1 = cc in absurd (omega arith)
 page-after Fine a maybe.None page e = let z : _≡_ {A = ℕ} 0 1 = cc in absurd (omega arith)
 page-after Fine a (maybe.Some q) page e = let f : q ≡ page = cc in (refl, ap maybe.Some f)

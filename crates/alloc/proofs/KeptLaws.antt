@@ -13,25 +13,25 @@ use Rattle.types.specs.declared.page_id.PageID.{PageID}
 use Rattle.types.specs.declared.page_id.MaybePageID.{MaybePageID}
 use Rattle.types.specs.declared.page_id.MaybePageID.the-variants.{None, Some}
 use Rattle.alloc.specs.Calls as calls
-use Rattle.alloc.specs.Calls.{nextFree, changeAfter, allocationAfter, handingOut}
+use Rattle.alloc.specs.Calls.{nextFree, handingOut}
 use Rattle.alloc.specs.Checks.{stateCheck, pageCheck, countCheck}
 use Rattle.alloc.specs.History.{Call, reset, tryAllocate, markUsed, free, isUsed, usedPages, freePages, pageCount, margin, tryAllocateEach, freeEach, leftBy, leftAfter}
 use Rattle.alloc.specs.Marks.{bitsOf, marksOf, isMarked, countOf, marking, freeing}
 use Rattle.alloc.specs.Several as several
-use Rattle.alloc.specs.Several.{Handed, thenFurther, handedBy, allocationsAfter, thenFreeing, freeOn}
+use Rattle.alloc.specs.Several.{Handed, thenFurther, handedBy, thenFreeing, freeOn}
 use Rattle.alloc.specs.State.{allFree, marked, freed, movedPast, Sized, inRange}
 use Rattle.alloc.specs.declared.allocator.Allocator.{Allocator}
 use Rattle.alloc.specs.declared.answers.Allocated.{Allocated}
 use Rattle.alloc.specs.declared.answers.Allocated.the-variants as allocated
 use Rattle.alloc.specs.declared.answers.Allocation.{Allocation}
+use Rattle.alloc.specs.declared.answers.Allocations.{Allocations}
 use Rattle.alloc.specs.declared.answers.Change.{Change}
 use Rattle.types.specs.declared.answers.Outcome.{Outcome}
 use Rattle.types.specs.declared.answers.Outcome.the-variants as outcome
-use Rattle.types.specs.declared.refusal.Verdict.{Verdict}
-use Rattle.types.specs.declared.refusal.Verdict.the-variants.{Fine, Refused}
+use Rattle.types.proofs.HistoryLaws.{leftAfter-keeps}
 use Rattle.alloc.proofs.HandedLaws.{found-free}
 use Rattle.alloc.proofs.MarksLaws.{no-bits-of-zero, countOf-append, countOf-split, countOf-mark, countOf-free, length-marksOf, marksOf-marking, marksOf-freeing}
-use Rattle.alloc.proofs.StateLaws.{InRange, Sound, in-range, is-in-range, fine-page, fine-count}
+use Rattle.alloc.proofs.StateLaws.{InRange, Sound, in-range, is-in-range, refusedOr-either, fine-page, fine-count}
 
 -- ---- states
 
@@ -88,15 +88,6 @@ freed-sized a p s = simp length-set s
 
 -- ---- calls
 
--- what holds of an allocator as it was, and of the one that the work leaves, holds of what a checked call leaves
-after-change : (P : Allocator → Type 0) (k : Verdict) (a : Allocator) (work : Change) → P a → (k ≡ Fine → P (work .allocator)) → P (changeAfter k a work .allocator)
-after-change P (Refused why) a work p f = p
-after-change P Fine a work p f = f refl
-
-after-allocation : (P : Allocator → Type 0) (k : Verdict) (a : Allocator) (work : Allocation) → P a → (k ≡ Fine → P (work .allocator)) → P (allocationAfter k a work .allocator)
-after-allocation P (Refused why) a work p f = p
-after-allocation P Fine a work p f = f refl
-
 either : (P : Allocator → Type 0) (t : Bool) (x y : Change) → (t ≡ true → P (x .allocator)) → (t ≡ false → P (y .allocator)) → P (cond t x y .allocator)
 either P true x y f g = f refl
 either P false x y f g = g refl
@@ -108,7 +99,7 @@ handed P a (Some page) p f = f page refl
 
 allocated-kept : (a : Allocator) → Sound a → Sound (calls.tryAllocate a .allocator)
 unfolding calls.tryAllocate
-allocated-kept a s = after-allocation Sound (stateCheck a) a _ s (λ e. handed Sound a (nextFree a) s (λ page f.
+allocated-kept a s = refusedOr-either (λ (x : Allocation). Sound (x .allocator)) (stateCheck a) _ _ (λ why. s) (λ e. handed Sound a (nextFree a) s (λ page f.
     let p = page .0 in
     let here = found-free a page p (s .1) f refl in
     let size = marked-sized a p (s .0) in
@@ -116,7 +107,7 @@ allocated-kept a s = after-allocation Sound (stateCheck a) a _ s (λ e. handed S
 
 freed-kept : (a : Allocator) (p : ℕ) → Sound a → Sound (calls.free a (record { 0 = p }) .allocator)
 unfolding calls.free
-freed-kept a p s = after-change Sound (pageCheck a (record { 0 = p })) a _ s (λ e.
+freed-kept a p s = refusedOr-either (λ (x : Change). Sound (x .allocator)) (pageCheck a (record { 0 = p })) _ _ (λ why. s) (λ e.
     let below = fine-page a (record { 0 = p }) e .1 in
     either Sound (isMarked (a .pages) p) _ _ (λ m. (freed-sized a p (s .0), freed-in a p (s .0) (s .1) below m)) (λ m. s))
 
@@ -133,10 +124,6 @@ handed-kept zero a s = s
 handed-kept (suc n) a s =
     further-kept (calls.tryAllocate a .answer) a _ s (handed-kept n (calls.tryAllocate a .allocator) (allocated-kept a s))
 
-after-allocations : (k : Verdict) (a : Allocator) (h : Handed) → Sound a → Sound (h .allocator) → Sound (allocationsAfter k a h .allocator)
-after-allocations (Refused why) a h s t = s
-after-allocations Fine a h s t = t
-
 onward-kept : (x : Outcome) (start : Allocator) (c : Change) → Sound start → Sound (c .allocator) → Sound (thenFreeing x start c .allocator)
 onward-kept outcome.Done start c s t = t
 onward-kept (outcome.Refused why) start c s t = s
@@ -151,12 +138,12 @@ freeOn-kept start (p ∷ ps) a s t =
 
 -- whatever is called, used stays the number of marks, and none comes to lie at or past the count
 pub kept : (a : Allocator) (c : Call) → Sound a → Sound (leftBy a c)
-unfolding leftBy calls.reset calls.markUsed several.allocateEach several.freeEach
+unfolding leftBy calls.reset calls.markUsed several.tryAllocateEach several.freeEach
 kept a (reset count seed) s =
-    after-change Sound (countCheck count) a (calls.done (allFree count (seed % count))) s
+    refusedOr-either (λ (x : Change). Sound (x .allocator)) (countCheck count) _ _ (λ why. s)
     (λ e. let f = fine-count count e in (refl, allFree-in count (seed % count) (f .1) (inl (mod-lt seed (f .0)))))
 kept a tryAllocate s = allocated-kept a s
-kept a (markUsed p) s = after-change Sound (pageCheck a (record { 0 = p })) a _ s (λ e.
+kept a (markUsed p) s = refusedOr-either (λ (x : Change). Sound (x .allocator)) (pageCheck a (record { 0 = p })) _ _ (λ why. s) (λ e.
     let below = fine-page a (record { 0 = p }) e .1 in
     either Sound (isMarked (a .pages) p) _ _ (λ m. s) (λ m. (marked-sized a p (s .0), marked-in a p (s .0) (s .1) below m)))
 kept a (free p) s = freed-kept a p s
@@ -165,8 +152,8 @@ kept a usedPages s = s
 kept a freePages s = s
 kept a pageCount s = s
 kept a (margin wanted) s = s
-kept a (tryAllocateEach n) s = after-allocations (stateCheck a) a (handedBy n a) s (handed-kept n a s)
-kept a (freeEach pages) s = after-change Sound (stateCheck a) a _ s (λ e. freeOn-kept a pages a s s)
+kept a (tryAllocateEach n) s = refusedOr-either (λ (x : Allocations). Sound (x .allocator)) (stateCheck a) _ _ (λ why. s) (λ e. handed-kept n a s)
+kept a (freeEach pages) s = refusedOr-either (λ (x : Change). Sound (x .allocator)) (stateCheck a) _ _ (λ why. s) (λ e. freeOn-kept a pages a s s)
 
 -- the same, of the test that the code makes
 pub range-kept : (a : Allocator) (c : Call) → Sized a → inRange a ≡ true → inRange (leftBy a c) ≡ true
@@ -178,6 +165,4 @@ pub new-sound : Sound (allFree 0 0)
 new-sound = (refl, allFree-in 0 0 (omega arith) (inr (refl, refl)))
 
 pub history-kept : (cs : List Call) (a : Allocator) → Sound a → Sound (leftAfter a cs)
-unfolding leftAfter
-history-kept [] a s = s
-history-kept (c ∷ cs) a s = history-kept cs (leftBy a c) (kept a c s)
+history-kept cs a s = leftAfter-keeps leftBy Sound kept a cs s

@@ -8,9 +8,10 @@ use native.Mathlib.Nat.{mod-lt}
 use native.Mathlib.Omega.{arith}
 use lib.ListN.{length, getD, take}
 use lib.Seq.{getD-take, length-take-le}
+use Rattle.types.specs.Checks.{refusedOr}
 use Rattle.types.specs.declared.page_id.MaybePageID.{MaybePageID}
 use Rattle.types.specs.declared.page_id.MaybePageID.the-variants as maybe
-use Rattle.alloc.specs.Calls.{nextFree, tryAllocate, handingOut, allocationAfter}
+use Rattle.alloc.specs.Calls.{nextFree, tryAllocate, handingOut, refusedAllocation}
 use Rattle.alloc.specs.Checks.{stateCheck}
 use Rattle.alloc.specs.Marks.{marksOf, isMarked, countOf}
 use Rattle.alloc.specs.Search.{roundFrom}
@@ -85,7 +86,7 @@ used-none a r h = says-none (marksOf (a .pages)) (roundFrom (a .«next_page_id»
         let m : j < count = rw (length-roundFrom next count (next-le a r)) at l in
         rw (roundFrom-at next count (next-le a r) j m) (h ((next + j) % count) (mod-lt (next + j) (omega arith)))
 
-none-after : (k : Verdict) (a : Allocator) (m : MaybePageID) → allocationAfter k a (handingOut a m) .answer ≡ None → (k ≡ Fine) × (m ≡ maybe.None)
+none-after : (k : Verdict) (a : Allocator) (m : MaybePageID) → refusedOr k (refusedAllocation a) (handingOut a m) .answer ≡ None → (k ≡ Fine) × (m ≡ maybe.None)
 none-after (Refused why) a m e = let z : _≡_ {A = ℕ} 0 1 = cc in absurd (omega arith)
 none-after Fine a maybe.None e = (refl, refl)
 none-after Fine a (maybe.Some q) e = let z : _≡_ {A = ℕ} 0 1 = cc in absurd (omega arith)

@@ -14,16 +14,14 @@ use Rattle.types.specs.declared.page_id.MaybePageID.the-variants.{None, Some}
 use Rattle.types.specs.declared.refusal.Refusal.{Refusal}
 use Rattle.types.specs.declared.refusal.Refusal.the-variants.{Corrupted, OutOfRange}
 use Rattle.types.specs.declared.refusal.Verdict.the-variants.{Fine, Refused}
-use Rattle.alloc.specs.Calls.{nextFree, tryAllocate, free, done}
+use Rattle.alloc.specs.Calls.{nextFree, tryAllocate, free, done, refusedChange}
 use Rattle.alloc.specs.Checks.{stateCheck, pageCheck}
 use Rattle.alloc.specs.Marks.{isMarked, marking, freeing}
-use Rattle.alloc.specs.Several.{Handed, nothingHanded, handedBy, allocateEach, putFirst, placesAfter, freeOn, freeEach}
+use Rattle.alloc.specs.Several.{Handed, nothingHanded, handedBy, refusedAllocations, tryAllocateEach, placesAfter, freeOn, freeEach}
 use Rattle.alloc.specs.State.{marked, freed, movedPast}
 use Rattle.alloc.specs.declared.allocator.Allocator.{Allocator}
-use Rattle.alloc.specs.declared.answers.Allocations.{Allocations}
 use Rattle.alloc.specs.declared.answers.Change.{Change}
 use Rattle.alloc.specs.declared.answers.Count.the-variants as count
-use Rattle.types.specs.declared.answers.Outcome.the-variants as outcome
 use Rattle.alloc.proofs.HandedLaws.{found-free}
 use Rattle.alloc.proofs.KeptLaws.{marked-in, freed-in, movedPast-in, marked-sized, freed-sized}
 use Rattle.alloc.proofs.StateLaws.{InRange, Sound, is-in-range, state-fine}
@@ -53,8 +51,8 @@ unfolding handedBy tryAllocate
 hand-page n a page r is = rw (state-fine a r, is)
 
 pub refused-each : (a : Allocator) (places : List ℕ) (why : Refusal) → stateCheck a ≡ Refused why
-    → (record { answer = count.Refused why; allocator = a } ≡ allocateEach a (length places)) × (places ≡ placesAfter a places)
-unfolding allocateEach placesAfter
+    → (refusedAllocations a why ≡ tryAllocateEach a (length places)) × (places ≡ placesAfter a places)
+unfolding tryAllocateEach placesAfter
 refused-each a places why e = (rw e, rw (hand-refused (length places) a why e))
 
 -- i places have got a page, and a is left
@@ -116,18 +114,18 @@ module _ (start : Allocator) (places₀ places : List ℕ) (i : ℕ) (a : Alloca
   handed e = h .so-far ∙ ap (behind (take i places)) e ∙ ap (λ (l : List ℕ). record { pages = l; allocator = a }) (append-nil (take i places))
 
   ended : stateCheck start ≡ Fine → handedBy (length places₀ - i) a ≡ nothingHanded a
-      → (record { answer = count.Pages i; allocator = a } ≡ allocateEach start (length places₀)) × (places ≡ placesAfter start places₀)
-  unfolding allocateEach placesAfter
+      → (record { answer = count.Pages i; allocator = a } ≡ tryAllocateEach start (length places₀)) × (places ≡ placesAfter start places₀)
+  unfolding tryAllocateEach placesAfter
   ended fine e =
       let counted : length (take i places) ≡ i = length-take-le i places (h .within) in
       (rw (fine, handed e, counted), rw (handed e, counted) (sym (take-append-drop i places) ∙ ap (λ (l : List ℕ). take i places ++ l) (h .rest)))
 
   pub no-page : stateCheck start ≡ Fine → nextFree a ≡ None
-      → (record { answer = count.Pages i; allocator = a } ≡ allocateEach start (length places₀)) × (places ≡ placesAfter start places₀)
+      → (record { answer = count.Pages i; allocator = a } ≡ tryAllocateEach start (length places₀)) × (places ≡ placesAfter start places₀)
   no-page fine none = ended fine (hand-none (length places₀ - i) a (h .sound .1) none)
 
   pub no-place : stateCheck start ≡ Fine → length places ≤ i
-      → (record { answer = count.Pages i; allocator = a } ≡ allocateEach start (length places₀)) × (places ≡ placesAfter start places₀)
+      → (record { answer = count.Pages i; allocator = a } ≡ tryAllocateEach start (length places₀)) × (places ≡ placesAfter start places₀)
   unfolding handedBy
   no-place fine full = let z : length places₀ - i ≡ 0 = omega (arith, h .long) in ended fine (ap (λ (n : ℕ). handedBy n a) z)
 
@@ -142,10 +140,7 @@ pub record Freeing (start : Allocator) (pages : List ℕ) (i : ℕ) (a : Allocat
 pub free-begun : (start : Allocator) (pages : List ℕ) → Sound start → Freeing start pages 0 start
 free-begun start pages s = record { sound = s; within = omega arith; to-come = refl }
 
-abbrev refusing : Refusal → Allocator → Change
-refusing why a = record { answer = outcome.Refused why; allocator = a }
-
-pub refused-free : (a : Allocator) (pages : List ℕ) (why : Refusal) → stateCheck a ≡ Refused why → refusing why a ≡ freeEach a pages
+pub refused-free : (a : Allocator) (pages : List ℕ) (why : Refusal) → stateCheck a ≡ Refused why → refusedChange a why ≡ freeEach a pages
 unfolding freeEach
 refused-free a pages why e = rw e
 
@@ -159,11 +154,11 @@ module _ (start a : Allocator) (p : ℕ) (rest : List ℕ) (r : InRange a) where
   unfolding freeOn free
   first-freed below used = rw (page-there below, used)
 
-  first-free-already : p < a .«page_count» → isMarked (a .pages) p ≡ false → freeOn start (p ∷ rest) a ≡ refusing Corrupted start
+  first-free-already : p < a .«page_count» → isMarked (a .pages) p ≡ false → freeOn start (p ∷ rest) a ≡ refusedChange start Corrupted
   unfolding freeOn free
   first-free-already below unused = rw (page-there below, unused)
 
-  first-past : a .«page_count» ≤ p → freeOn start (p ∷ rest) a ≡ refusing OutOfRange start
+  first-past : a .«page_count» ≤ p → freeOn start (p ∷ rest) a ≡ refusedChange start OutOfRange
   unfolding freeOn free pageCheck
   first-past past = rw (is-in-range a r, le-ltb p (a .«page_count») past)
 
@@ -192,10 +187,10 @@ module _ (start : Allocator) (pages : List ℕ) (i : ℕ) (a : Allocator) (h : F
     unfolding freeEach
     each c e = rw (fine, e)
 
-    pub past : i < length pages → a .«page_count» ≤ getD pages i 0 → refusing OutOfRange start ≡ freeEach start pages
+    pub past : i < length pages → a .«page_count» ≤ getD pages i 0 → refusedChange start OutOfRange ≡ freeEach start pages
     past below beyond = each _ (one below ∙ first-past start a (getD pages i 0) (drop (i + 1) pages) (h .sound .1) beyond)
 
-    pub free-already : i < length pages → getD pages i 0 < a .«page_count» → isMarked (a .pages) (getD pages i 0) ≡ false → refusing Corrupted start ≡ freeEach start pages
+    pub free-already : i < length pages → getD pages i 0 < a .«page_count» → isMarked (a .pages) (getD pages i 0) ≡ false → refusedChange start Corrupted ≡ freeEach start pages
     free-already below there unused =
         each _ (one below ∙ first-free-already start a (getD pages i 0) (drop (i + 1) pages) (h .sound .1) there unused)
 

@@ -1,6 +1,6 @@
 -- What the checks say, as facts. Assumes nothing.
 use mathlib.Core.Path.{_≡_, refl}
-use mathlib.Core.Bool.{Bool, true, false, _&&_, _||_, cond}
+use mathlib.Core.Bool.{Bool, true, false, _&&_, _||_}
 use mathlib.Core.Logic.{_⊎_, inl, inr, ⊎-elim}
 use Prim.Native.Nat.{ℕ, _≤_, _<_}
 use native.Mathlib.Omega.{arith}
@@ -8,9 +8,11 @@ use lib.Dec.{ltb, leb, eqb}
 use lib.ListN.{length, take, drop, length-take}
 use borrow.Author.Tests.{ltb-true, leb-true, eqb-true, lt-ltb, le-leb, eq-eqb}
 use Rattle.types.specs.Build.{maxPageCount}
+use Rattle.types.specs.Checks.{asking, refusedOr}
 use Rattle.types.specs.declared.page_id.PageID.{PageID}
 use Rattle.types.specs.declared.refusal.Refusal.{Refusal}
 use Rattle.types.specs.declared.refusal.Refusal.the-variants.{OutOfRange, BadCount, BadState}
+use Rattle.types.proofs.CheckLaws.{asking-fine}
 use Rattle.types.proofs.TestLaws.{both-true}
 use Rattle.alloc.specs.Checks.{stateCheck, pageCheck, wantedCheck, countCheck}
 use Rattle.alloc.specs.Marks.{marksOf, isMarked, countOf}
@@ -83,13 +85,15 @@ used-pos a p r m = omega (arith, r .counted, countOf-free (marksOf (a .pages)) p
 
 -- ---- the checks that let a call go on
 
-passed : (t : Bool) (rest : Verdict) (why : Refusal) → cond t rest (Refused why) ≡ Fine → (t ≡ true) × (rest ≡ Fine)
-passed true rest why e = (refl, e)
-passed false rest why e = let z : _≡_ {A = ℕ} 0 1 = cc in absurd (omega arith)
+-- what holds of each refusal, and of the work where the check is fine, holds of the checked call
+pub refusedOr-either : {A : Type 0} (P : A → Type 0) (check : Verdict) (refused : Refusal → A) (work : A)
+    → ((why : Refusal) → P (refused why)) → (check ≡ Fine → P work) → P (refusedOr check refused work)
+refusedOr-either P (Refused why) refused work p f = p why
+refusedOr-either P Fine refused work p f = f refl
 
 pub fine-state : (a : Allocator) → stateCheck a ≡ Fine → InRange a
 unfolding stateCheck
-fine-state a e = in-range a (passed (inRange a) Fine BadState e .0)
+fine-state a e = in-range a (asking-fine (inRange a) BadState Fine e .0)
 
 pub state-fine : (a : Allocator) → InRange a → stateCheck a ≡ Fine
 unfolding stateCheck
@@ -98,8 +102,8 @@ state-fine a r = rw (is-in-range a r)
 pub fine-page : (a : Allocator) (page : PageID) → pageCheck a page ≡ Fine → InRange a × (page .0 < a .«page_count»)
 unfolding pageCheck
 fine-page a page e =
-    let s = passed (inRange a) (cond (ltb (page .0) (a .«page_count»)) Fine (Refused OutOfRange)) BadState e in
-    let t = passed (ltb (page .0) (a .«page_count»)) Fine OutOfRange (s .1) in
+    let s = asking-fine (inRange a) BadState (asking (ltb (page .0) (a .«page_count»)) OutOfRange Fine) e in
+    let t = asking-fine (ltb (page .0) (a .«page_count»)) OutOfRange Fine (s .1) in
     (in-range a (s .0), ltb-true (page .0) (a .«page_count») (t .0))
 
 -- so the page has a mark
@@ -109,14 +113,14 @@ page-below a page p e is = omega (arith, fine-page a page e .0 .few, fine-page a
 pub fine-wanted : (a : Allocator) (wanted : ℕ) → wantedCheck a wanted ≡ Fine → (wanted ≤ maxPageCount) × InRange a
 unfolding wantedCheck
 fine-wanted a wanted e =
-    let s = passed (leb wanted maxPageCount) (cond (inRange a) Fine (Refused BadState)) BadCount e in
-    let t = passed (inRange a) Fine BadState (s .1) in
+    let s = asking-fine (leb wanted maxPageCount) BadCount (asking (inRange a) BadState Fine) e in
+    let t = asking-fine (inRange a) BadState Fine (s .1) in
     (leb-true wanted maxPageCount (s .0), in-range a (t .0))
 
 pub fine-count : (count : ℕ) → countCheck count ≡ Fine → (1 ≤ count) × (count ≤ maxPageCount)
 unfolding countCheck
 fine-count count e =
-    let b = both-true (leb 1 count) (leb count maxPageCount) (passed (leb 1 count && leb count maxPageCount) Fine BadCount e .0) in
+    let b = both-true (leb 1 count) (leb count maxPageCount) (asking-fine (leb 1 count && leb count maxPageCount) BadCount Fine e .0) in
     (leb-true 1 count (b .0), leb-true count maxPageCount (b .1))
 
 pub count-fine : (count : ℕ) → 1 ≤ count → count ≤ maxPageCount → countCheck count ≡ Fine

@@ -8,10 +8,10 @@ use native.Mathlib.Nat.{mod-lt, mod-add-mod, mod-eq-of-lt, zero-div}
 use native.Mathlib.Numerals.{add-one}
 use native.Mathlib.Omega.{arith}
 use lib.Dec.{ltb}
-use lib.IntN.{pos}
 use lib.ListN.{getD, replicate}
 use borrow.Author.Tests.{lt-ltb, le-ltb}
 use Rattle.types.specs.Build.{maxPageCount}
+use Rattle.types.proofs.HistoryLaws.{leftAfter-none, leftAfter-more, toldByEach-none, toldByEach-more}
 use Rattle.types.proofs.TestLaws.{eq-or-ne, leb-iff}
 use Rattle.types.specs.Answers.{Told, answered, outcomeTold}
 use Rattle.alloc.specs.Answers.{allocatedTold}
@@ -84,18 +84,20 @@ module _ (count first : ℕ) (few : count ≤ maxPageCount) (fits : first < coun
   -- from there on pages go out one by one
   turns : (n i : ℕ) (a : Allocator) → Turned count first i a → i + n ≤ count
       → answersTo a (replicate n tryAllocate) ≡ map (λ (j : ℕ). answered ((first + j) % count ∷ [])) (upFrom i n)
-  unfolding answersTo answerTo leftBy upFrom
-  turns zero i a t h = refl
+  unfolding answerTo leftBy upFrom
+  turns zero i a t h = toldByEach-none leftBy answerTo a
   turns (suc n) i a t h =
-      ap₂ (λ (x : Told) (l : List Told). x ∷ l) (ap allocatedTold (turned-page i (omega arith) a t))
+      toldByEach-more leftBy answerTo a tryAllocate (replicate n tryAllocate)
+      ∙ ap₂ (λ (x : Told) (l : List Told). x ∷ l) (ap allocatedTold (turned-page i (omega arith) a t))
       (turns n (suc i) (calls.tryAllocate a .allocator) (rw (add-one i) at (turned-more i (omega arith) a t)) (omega arith))
 
   turns-left : (n i : ℕ) (a : Allocator) → Turned count first i a → i + n ≤ count → Turned count first (i + n) (leftAfter a (replicate n tryAllocate))
-  unfolding leftAfter leftBy
-  turns-left zero i a t h = let e : i + 0 ≡ i = omega arith in rw e t
+  unfolding leftBy
+  turns-left zero i a t h = let e : i + 0 ≡ i = omega arith in rw (e, leftAfter-none leftBy a) t
   turns-left (suc n) i a t h =
       let e : i + suc n ≡ i + 1 + n = omega arith in
-      rw e (turns-left n (i + 1) (calls.tryAllocate a .allocator) (turned-more i (omega arith) a t) (omega arith))
+      rw (e, leftAfter-more leftBy a tryAllocate (replicate n tryAllocate))
+      (turns-left n (i + 1) (calls.tryAllocate a .allocator) (turned-more i (omega arith) a t) (omega arith))
 
   turned-all : (a : Allocator) → Turned count first count a → calls.tryAllocate a .answer ≡ None
   turned-all a t = none-exactly a (t .sound .0) (t .sound .1) .1 (inr (says-full a (t .sound .0) (t .sound .1) each))
@@ -114,12 +116,13 @@ reset-done a count seed some few = rw (count-fine count some few)
 -- the i-th page is the seed's page and i on
 pub in-turn : (a : Allocator) (count seed n : ℕ) → 1 ≤ count → count ≤ maxPageCount → n ≤ count
     → answersTo a (reset count seed ∷ replicate n tryAllocate) ≡ answered [] ∷ map (λ (i : ℕ). answered ((seed + i) % count ∷ [])) (upFrom 0 n)
-unfolding answersTo answerTo leftBy
+unfolding answerTo leftBy
 in-turn a count seed n some few h =
     let first = seed % count in
     let t : Turned count first 0 (allFree count first) = turned-none count first few (mod-lt seed some) in
     let seeds : map (λ (j : ℕ). answered ((first + j) % count ∷ [])) (upFrom 0 n) ≡ map (λ (i : ℕ). answered ((seed + i) % count ∷ [])) (upFrom 0 n) = simp mod-add-mod in
-    ap (λ (c : Change). outcomeTold (c .answer) ∷ answersTo (c .allocator) (replicate n tryAllocate)) (reset-done a count seed some few)
+    toldByEach-more leftBy answerTo a (reset count seed) (replicate n tryAllocate)
+    ∙ ap (λ (c : Change). outcomeTold (c .answer) ∷ answersTo (c .allocator) (replicate n tryAllocate)) (reset-done a count seed some few)
     ∙ ap (λ (l : List Told). answered [] ∷ l) (turns count first few (mod-lt seed some) n 0 (allFree count first) t (omega arith) ∙ seeds)
 
 -- the pages handed out are different
@@ -134,11 +137,12 @@ turns-every count seed p h =
 
 -- after the first count of them there is none
 pub then-none : (a : Allocator) (count seed : ℕ) → 1 ≤ count → count ≤ maxPageCount → calls.tryAllocate (leftAfter a (reset count seed ∷ replicate count tryAllocate)) .answer ≡ None
-unfolding leftAfter leftBy
+unfolding leftBy
 then-none a count seed some few =
     let first = seed % count in
     let t : Turned count first 0 (allFree count first) = turned-none count first few (mod-lt seed some) in
     let z : 0 + count ≡ count = omega arith in
-    ap (λ (c : Change). calls.tryAllocate (leftAfter (c .allocator) (replicate count tryAllocate)) .answer) (reset-done a count seed some few)
+    ap (λ (b : Allocator). calls.tryAllocate b .answer) (leftAfter-more leftBy a (reset count seed) (replicate count tryAllocate))
+    ∙ ap (λ (c : Change). calls.tryAllocate (leftAfter (c .allocator) (replicate count tryAllocate)) .answer) (reset-done a count seed some few)
     ∙ turned-all count first few (mod-lt seed some) (leftAfter (allFree count first) (replicate count tryAllocate))
     (rw z at (turns-left count first few (mod-lt seed some) count 0 (allFree count first) t (omega arith)))

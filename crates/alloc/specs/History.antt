@@ -1,7 +1,8 @@
 -- Calls one after another, each on the allocator that the one before left. Assumes nothing.
-use mathlib.Core.List.{List, [], _∷_}
+use mathlib.Core.List.{List}
 use Prim.Native.Nat.{ℕ}
 use Rattle.types.specs.Answers.{Told, outcomeTold}
+use Rattle.types.specs.Histories as histories
 use Rattle.alloc.specs.Answers.{allocatedTold, usageTold, countTold, pagesTold, marginTold}
 use Rattle.alloc.specs.Calls as calls
 use Rattle.alloc.specs.Several as several
@@ -28,7 +29,7 @@ answerTo a usedPages = countTold (calls.usedPages a)
 answerTo a freePages = countTold (calls.freePages a)
 answerTo a pageCount = countTold (calls.pageCount a)
 answerTo a (margin wanted) = marginTold (calls.marginOf a wanted)
-answerTo a (tryAllocateEach n) = pagesTold (several.allocateEach a n .answer) (several.handedBy n a .pages)
+answerTo a (tryAllocateEach n) = pagesTold (several.tryAllocateEach a n .answer) (several.handedBy n a .pages)
 answerTo a (freeEach pages) = outcomeTold (several.freeEach a pages .answer)
 
 -- the allocator that it leaves
@@ -42,14 +43,12 @@ leftBy a usedPages = a
 leftBy a freePages = a
 leftBy a pageCount = a
 leftBy a (margin wanted) = a
-leftBy a (tryAllocateEach n) = several.allocateEach a n .allocator
+leftBy a (tryAllocateEach n) = several.tryAllocateEach a n .allocator
 leftBy a (freeEach pages) = several.freeEach a pages .allocator
 
 -- the same of a history of calls
-unfoldable pub answersTo : Allocator → List Call → List Told
-answersTo a [] = []
-answersTo a (c ∷ cs) = answerTo a c ∷ answersTo (leftBy a c) cs
+abbrev pub answersTo : Allocator → List Call → List Told
+answersTo a cs = histories.toldByEach leftBy answerTo a cs
 
-unfoldable pub leftAfter : Allocator → List Call → Allocator
-leftAfter a [] = a
-leftAfter a (c ∷ cs) = leftAfter (leftBy a c) cs
+abbrev pub leftAfter : Allocator → List Call → Allocator
+leftAfter a cs = histories.leftAfter leftBy a cs

@@ -3,9 +3,9 @@
 use mathlib.Core.List.{List, [], _∷_, _++_}
 use Prim.Native.Nat.{ℕ, zero, suc}
 use lib.ListN.{length, drop}
-use Rattle.types.specs.declared.refusal.Verdict.{Verdict}
-use Rattle.types.specs.declared.refusal.Verdict.the-variants.{Fine, Refused}
-use Rattle.alloc.specs.Calls.{tryAllocate, free, changeAfter, done}
+use Rattle.types.specs.Checks.{refusedOr}
+use Rattle.types.specs.declared.refusal.Refusal.{Refusal}
+use Rattle.alloc.specs.Calls.{tryAllocate, free, done, refusedChange}
 use Rattle.alloc.specs.Checks.{stateCheck}
 use Rattle.alloc.specs.declared.allocator.Allocator.{Allocator}
 use Rattle.alloc.specs.declared.answers.Allocated.{Allocated}
@@ -38,14 +38,17 @@ unfoldable pub handedBy : ℕ → Allocator → Handed
 handedBy zero a = nothingHanded a
 handedBy (suc n) a = thenFurther (tryAllocate a .answer) a (handedBy n (tryAllocate a .allocator))
 
--- what the check refuses, or how many pages there were
-abbrev pub allocationsAfter : Verdict → Allocator → Handed → Allocations
-allocationsAfter (Refused why) a h = record { answer = count.Refused why; allocator = a }
-allocationsAfter Fine a h = record { answer = count.Pages (length (h .pages)); allocator = h .allocator }
+-- refused, with the allocator as it was
+abbrev pub refusedAllocations : Allocator → Refusal → Allocations
+refusedAllocations a why = record { answer = count.Refused why; allocator = a }
+
+-- how many pages calls hand out, and the allocator that they leave
+abbrev pub allocationsOf : Handed → Allocations
+allocationsOf h = record { answer = count.Pages (length (h .pages)); allocator = h .allocator }
 
 -- with n places
-unfoldable pub allocateEach : Allocator → ℕ → Allocations
-allocateEach a n = allocationsAfter (stateCheck a) a (handedBy n a)
+unfoldable pub tryAllocateEach : Allocator → ℕ → Allocations
+tryAllocateEach a n = refusedOr (stateCheck a) (refusedAllocations a) (allocationsOf (handedBy n a))
 
 -- the places afterwards: the pages at their start, the rest staying
 abbrev pub putFirst : List ℕ → List ℕ → List ℕ
@@ -60,7 +63,7 @@ placesAfter a places = putFirst (handedBy (length places) a .pages) places
 -- the first refusal refuses all, with the allocator as it was at the start
 abbrev pub thenFreeing : Outcome → Allocator → Change → Change
 thenFreeing outcome.Done start further = further
-thenFreeing (outcome.Refused why) start further = record { answer = outcome.Refused why; allocator = start }
+thenFreeing (outcome.Refused why) start further = refusedChange start why
 
 -- these pages are still to be freed, in this order; a call that is refused gives the number, 4 or 1
 unfoldable pub freeOn : Allocator → List ℕ → Allocator → Change
@@ -70,4 +73,4 @@ freeOn start (p ∷ ps) a =
 
 -- all of them, from the start
 unfoldable pub freeEach : Allocator → List ℕ → Change
-freeEach a pages = changeAfter (stateCheck a) a (freeOn a pages a)
+freeEach a pages = refusedOr (stateCheck a) (refusedChange a) (freeOn a pages a)

@@ -21,8 +21,8 @@ pub(crate) fn check_state(a: Allocator) -> Verdict
 pub(crate) fn check_page(a: Allocator, page: PageID) -> Verdict
     ensures answers { λ r. ⌜ r ≡ pageCheck a page ⌝ }
 {
-    if !state::in_range(a) {
-        return Verdict::Refused(Refusal::BadState);
+    if let Verdict::Refused(why) = check_state(a) {
+        return Verdict::Refused(why);
     }
     if page.index() < a.page_count {
         Verdict::Fine
@@ -34,11 +34,10 @@ pub(crate) fn check_page(a: Allocator, page: PageID) -> Verdict
 pub(crate) fn check_wanted(a: Allocator, wanted: usize) -> Verdict
     ensures answers { λ r. ⌜ r ≡ wantedCheck a wanted ⌝ }
 {
-    if wanted <= MAX_PAGE_COUNT {
-        check_state(a)
-    } else {
-        Verdict::Refused(Refusal::BadCount)
+    if MAX_PAGE_COUNT < wanted {
+        return Verdict::Refused(Refusal::BadCount);
     }
+    check_state(a)
 }
 
 pub(crate) fn check_count(count: usize) -> Verdict

@@ -1,9 +1,9 @@
 // Several pages by one call: the same as calls one after the other, but that the state is checked once and that a refused call frees none.
 ghost use mathlib.Core.Path.{_≡_};
 ghost use lib.ListN.{length};
-ghost use Rattle.alloc.specs.Several.{allocateEach, placesAfter, freeEach};
+ghost use Rattle.alloc.specs.Calls.{refusedChange};
+ghost use Rattle.alloc.specs.Several.{tryAllocateEach, placesAfter, freeEach};
 ghost use Rattle.alloc.specs.declared.answers.Count.the-variants.{Pages};
-ghost use Rattle.types.specs.declared.answers.Outcome.the-variants.{Refused};
 use crate::allocator::Allocator;
 use crate::answers::Allocations;
 use crate::answers::Change;
@@ -25,8 +25,8 @@ fn handed(n: usize, left: Allocator) -> Allocations
     }
 }
 
-fn refused(why: Refusal, start: Allocator) -> Change
-    ensures answers { λ r. ⌜ r ≡ record { answer = Refused why; allocator = start } ⌝ }
+fn refused_change(why: Refusal, start: Allocator) -> Change
+    ensures answers { λ r. ⌜ r ≡ refusedChange start why ⌝ }
 {
     Change {
         answer: Outcome::Refused(why),
@@ -36,7 +36,7 @@ fn refused(why: Refusal, start: Allocator) -> Change
 
 // Puts a page into each place, until no page is free. The remaining places stay as they were.
 pub fn try_allocate_each(a: Allocator, places: &mut [u16]) -> Allocations
-    ensures answers { λ r. ⌜ r ≡ allocateEach a (length (now (places .entry))) ⌝ }
+    ensures answers { λ r. ⌜ r ≡ tryAllocateEach a (length (now (places .entry))) ⌝ }
     ensures bytes { λ _. ⌜ now (places .exit) ≡ placesAfter a (now (places .entry)) ⌝ }
 {
     if let Verdict::Refused(why) = checks::check_state(a) {
@@ -85,7 +85,7 @@ pub fn free_each(a: Allocator, freed: &[u16]) -> Change
     ensures answers { λ r. ⌜ r ≡ freeEach a (now (freed .entry)) ⌝ }
 {
     if let Verdict::Refused(why) = checks::check_state(a) {
-        return refused(why, a);
+        return refused_change(why, a);
     }
     let mut pages = a.pages;
     let mut used = a.used;
@@ -93,10 +93,10 @@ pub fn free_each(a: Allocator, freed: &[u16]) -> Change
     while i < freed.len() {
         let p = freed[i] as usize;
         if a.page_count <= p {
-            return refused(Refusal::OutOfRange, a);
+            return refused_change(Refusal::OutOfRange, a);
         }
         if !marks::is_marked(&pages, p) {
-            return refused(Refusal::Corrupted, a);
+            return refused_change(Refusal::Corrupted, a);
         }
         marks::unmark(&mut pages, p);
         used -= 1;

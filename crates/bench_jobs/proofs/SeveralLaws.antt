@@ -9,7 +9,7 @@ use Rattle.types.specs.declared.refusal.Refusal.{Refusal}
 use Rattle.slices.proofs.PatchLaws.{take-least}
 use Rattle.types.specs.Answers.{outcomeTold}
 use Rattle.alloc.specs.Calls.{freePages}
-use Rattle.alloc.specs.Several.{allocateEach, placesAfter, freeEach}
+use Rattle.alloc.specs.Several.{tryAllocateEach, placesAfter, freeEach}
 use Rattle.alloc.specs.declared.allocator.Allocator.{Allocator}
 use Rattle.alloc.specs.declared.answers.Allocations.{Allocations}
 use Rattle.alloc.specs.declared.answers.Change.{Change}
@@ -35,7 +35,7 @@ given-back-by sum end n told a places c is called so =
     ∙ ap (λ (l : List ℕ). summedUp sum (freeEach a l)) (ap (λ (k : ℕ). take k places) (sub-zero end) ∙ take-least end n places is)
 
 pub each-by : (count seed : ℕ) (places after : List ℕ) (t : Tally) (given : Allocations) (n code first sum : ℕ) → t ≡ resetTally count seed
-    → given ≡ allocateEach (t .allocator) (length places) → after ≡ placesAfter (t .allocator) places → code ≡ countCode (given .answer)
+    → given ≡ tryAllocateEach (t .allocator) (length places) → after ≡ placesAfter (t .allocator) places → code ≡ countCode (given .answer)
     → first ≡ mixed (t .sum) code → n ≡ pagesOf (given .answer) → sum ≡ givenBack first (given .allocator) n after
     → (sum ≡ allocEach count seed places) × (after ≡ eachPlaces count seed places)
 unfolding allocEach eachPlaces

@@ -17,7 +17,6 @@ use Rattle.writer.specs.Outcomes.{took, wrote}
 use Rattle.writer.specs.States.{newWriter}
 use Rattle.writer.specs.Writes.{takes}
 use Rattle.writer.specs.declared.answers.Ended.{Ended}
-use Rattle.writer.specs.declared.answers.Opened.{Opened}
 use Rattle.types.specs.declared.answers.Outcome.{Outcome}
 use Rattle.types.specs.declared.answers.Outcome.the-variants as outcome
 use Rattle.writer.specs.declared.answers.Taking.{Taking}
@@ -35,12 +34,12 @@ pub header-stored : (e : Ended) (n : ℕ) → n ≡ outcomeTold (e .answer) .num
     → _≡_ {A = Writing} (record { writer = e .writer; left = e .left; taken = 0; on = eqb n 0; why = n }) (afterHeader e)
 header-stored e n number = ap {B = Writing} (λ (k : ℕ). record { writer = e .writer; left = e .left; taken = 0; on = eqb k 0; why = k }) number
 
-module _ (flash : List ℕ) (magic page : ℕ) (header : List ℕ) (left : ℕ) (new : PageWriter) (o : Opened) (made : new ≡ newWriter)
+module _ (flash : List ℕ) (magic page : ℕ) (header : List ℕ) (left : ℕ) (new : PageWriter) (o : Ended) (made : new ≡ newWriter)
     (opens : o ≡ opened flash (record { 0 = page }) (length header) new left) where
   starts : writeBegunBy o flash magic header ≡ writeBegun flash magic page header left
   unfolding writeBegun
   starts =
-      ap (λ (x : Opened). writeBegunBy x flash magic header)
+      ap (λ (x : Ended). writeBegunBy x flash magic header)
       (opens ∙ ap (λ (w : PageWriter). opened flash (record { 0 = page }) (length header) w left) made)
 
   both : (w : Writing) (flash′ : List ℕ) → writeState w flash′ ≡ writeBegunBy o flash magic header

@@ -5,7 +5,7 @@ use lib.ListN.{length, take}
 use Rattle.types.specs.Refusals.{numberOf}
 use Rattle.types.specs.Answers.{outcomeTold}
 use Rattle.alloc.specs.Calls.{freePages}
-use Rattle.alloc.specs.Several.{allocateEach, placesAfter, freeEach}
+use Rattle.alloc.specs.Several.{tryAllocateEach, placesAfter, freeEach}
 use Rattle.alloc.specs.declared.allocator.Allocator.{Allocator}
 use Rattle.alloc.specs.declared.answers.Allocations.{Allocations}
 use Rattle.alloc.specs.declared.answers.Change.{Change}
@@ -39,7 +39,7 @@ eachSum sum given places = givenBack (mixed sum (countCode (given .answer))) (gi
 
 -- the job, once the allocator is reset
 abbrev eachAfter : Tally → List ℕ → ℕ
-eachAfter t places = eachSum (t .sum) (allocateEach (t .allocator) (length places)) (placesAfter (t .allocator) places)
+eachAfter t places = eachSum (t .sum) (tryAllocateEach (t .allocator) (length places)) (placesAfter (t .allocator) places)
 
 -- the job
 unfoldable pub allocEach : ℕ → ℕ → List ℕ → ℕ

@@ -13,7 +13,6 @@ use Rattle.writer.specs.Outcomes.{wrote}
 use Rattle.writer.specs.States.{newWriter}
 use Rattle.writer.specs.Writes.{takes}
 use Rattle.writer.specs.declared.answers.Ended.{Ended}
-use Rattle.writer.specs.declared.answers.Opened.{Opened}
 use Rattle.types.specs.declared.answers.Outcome.{Outcome}
 use Rattle.types.specs.declared.answers.Outcome.the-variants as outcome
 use Rattle.writer.specs.declared.answers.Taking.{Taking}
@@ -52,7 +51,7 @@ writeBegunAt outcome.Done w left flash magic header =
 writeBegunAt (outcome.Refused why) w left flash magic header =
     record { writing = record { writer = w; left = left; taken = 0; on = false; why = numberOf why }; flash = flash }
 
-abbrev pub writeBegunBy : Opened → List ℕ → ℕ → List ℕ → WriteState
+abbrev pub writeBegunBy : Ended → List ℕ → ℕ → List ℕ → WriteState
 writeBegunBy o flash magic header = writeBegunAt (o .answer) (o .writer) (o .left) flash magic header
 
 unfoldable pub writeBegun : List ℕ → ℕ → ℕ → List ℕ → ℕ → WriteState

@@ -38,7 +38,7 @@ fn allocate_one(t: Tally) -> Tally
     }
 }
 
-fn allocate_all(start: Tally) -> Tally
+fn allocate_first(start: Tally) -> Tally
     ensures answers { λ r. ⌜ r ≡ allocateFirst maxPageCount start ⌝ }
 {
     let mut t = start;
@@ -63,7 +63,7 @@ fn free_one(t: Tally, page: u16) -> Tally
     }
 }
 
-fn free_all(start: Tally) -> Tally
+fn free_first(start: Tally) -> Tally
     ensures answers { λ r. ⌜ r ≡ freeFirst maxPageCount start ⌝ }
 {
     let mut t = start;
@@ -92,6 +92,6 @@ pub(crate) fn reset_tally(count: usize, seed: u32) -> Tally
 pub extern "C" fn puffcradle_alloc_cycle(count: usize, seed: u32) -> u64
     ensures answers { λ r. ⌜ r ≡ allocCycle count seed ⌝ }
 {
-    let t = free_all(allocate_all(reset_tally(count, seed)));
+    let t = free_first(allocate_first(reset_tally(count, seed)));
     t.sum
 }

@@ -3,27 +3,22 @@ use mathlib.Core.Path.{_≡_, refl, sym, ap, ap₂, _∙_}
 use mathlib.Core.Bool.{Bool, true, false, cond}
 use mathlib.Core.List.{List, [], _∷_, _++_, append-assoc, append-nil}
 use mathlib.Core.Logic.{⊎-elim}
-use Prim.Native.Nat.{ℕ, _+_, _-_, _%_, _≤_, _<_}
+use Prim.Native.Nat.{ℕ, _+_, _%_, _≤_, _<_}
 use native.Mathlib.Omega.{arith}
 use lib.Dec.{eqb}
 use lib.ListN.{length, take, length-append, length-take}
 use borrow.Author.Tests.{eq-eqb, ne-eqb, eqb-false}
 use Rattle.types.specs.Build.{pageSize, maxChunkSize}
 use Rattle.types.proofs.TestLaws.{eq-or-ne, decided}
-use Rattle.flash.specs.Operations.{Op, erase, opIf, applied}
+use Rattle.flash.specs.Operations.{Op, applied}
 use Rattle.writer.specs.Commits.{chunkOps, nextChunk, commitOps}
-use Rattle.writer.specs.Writes.{takes, takenOf, payloadOps, grown, closeOps, takingOps, closed, writeOps, written}
+use Rattle.writer.specs.Writes.{takes, takenOf, payloadOps, grown, takingOps, closed, writeOps, written}
 use Rattle.writer.specs.declared.page_writer.PageWriter.{PageWriter}
 use Rattle.claims.specs.Additions.{fills, additionOps, addition}
-use Rattle.claims.proofs.AddingLaws.{Adding, piece-added}
-use Rattle.claims.proofs.ClosingLaws.{Stored, chunk-closed, stored-behind, piece-behind}
+use Rattle.writer.proofs.AddingLaws.{Adding, piece-added}
+use Rattle.writer.proofs.ClosingLaws.{Stored, chunk-closed, stored-behind, piece-behind, takingOps-unarmed}
 
--- a write that takes all these bytes, with no erase armed: its groups, then what a full chunk asks
-taking-split : (e : ℕ) (w : PageWriter) (bytes : List ℕ) → w .armed ≡ false → takingOps e w bytes ≡ payloadOps w bytes ++ closeOps e (grown w bytes)
-unfolding takingOps
-taking-split e w bytes off = ap (λ (b : Bool). opIf b (erase e) ++ payloadOps w bytes ++ closeOps e (grown w bytes)) off
-
-not-full : (p q : ℕ) → p ≡ q → p ≤ 4076 → (p ≡ 4076 → ⊥) → q < 4076
+not-full : (p q : ℕ) → p ≡ q → p ≤ maxChunkSize → (p ≡ maxChunkSize → ⊥) → q < maxChunkSize
 not-full p q e h n = omega arith
 
 positive : (n m : ℕ) → (n ≡ 0 → ⊥) → m ≡ n → 0 < m
@@ -47,7 +42,7 @@ module _ (page₀ : List ℕ) (o e : ℕ) (even : o % 4 ≡ 0) where
   none-taken w bytes pieces z less =
       let t : takenOf w bytes ≡ [] = ap (λ (n : ℕ). take n bytes) z in
       let l : length (takenOf w bytes) ≡ 0 = ap length t in
-      let f : fills w bytes ≡ false = ne-eqb (w .pending + length (takenOf w bytes)) 4076 (λ (h : w .pending + length (takenOf w bytes) ≡ 4076). omega arith) in
+      let f : fills w bytes ≡ false = ne-eqb (w .pending + length (takenOf w bytes)) maxChunkSize (λ (h : w .pending + length (takenOf w bytes) ≡ maxChunkSize). omega arith) in
       let b : eqb (takes (length bytes) w) 0 ≡ true = eq-eqb (takes (length bytes) w) 0 z in
       let same : written w bytes ≡ w = ap (λ (x : Bool). cond x w (closed (grown w (takenOf w bytes)))) b in (
         ap (λ (x : Bool). takenOf w bytes ++ cond x [] (addition (written w bytes) pieces)) f ∙ ap₂ (λ (x : List ℕ) (v : PageWriter). x ++ addition v pieces) t same,
@@ -66,7 +61,7 @@ module _ (page₀ : List ℕ) (o e : ℕ) (even : o % 4 ≡ 0) where
         ap (λ (x : Bool). writeOps e w bytes ++ cond x [] (additionOps e (written w bytes) pieces)) f
             ∙ append-nil (writeOps e w bytes)
             ∙ ap (λ (x : Bool). cond x [] (takingOps e w t)) b
-            ∙ taking-split e w t off
+            ∙ takingOps-unarmed e w t off
             ∙ ap (λ (x : Bool). payloadOps w t ++ cond x (chunkOps e (grown w t)) []) f,
       )
 
@@ -81,7 +76,7 @@ module _ (page₀ : List ℕ) (o e : ℕ) (even : o % 4 ≡ 0) where
       let same : written w bytes ≡ grown w t = ap (λ (x : Bool). cond x w (closed (grown w t))) b ∙ ap (λ (x : Bool). cond x (nextChunk (grown w t)) (grown w t)) f in
       let ops : writeOps e w bytes ≡ payloadOps w t =
       ap (λ (x : Bool). cond x [] (takingOps e w t)) b
-      ∙ taking-split e w t off
+      ∙ takingOps-unarmed e w t off
       ∙ ap (λ (x : Bool). payloadOps w t ++ cond x (chunkOps e (grown w t)) []) f
       ∙ append-nil (payloadOps w t) in (
         ap (λ (x : Bool). t ++ cond x [] (addition (written w bytes) pieces)) f ∙ ap (λ (v : PageWriter). t ++ addition v pieces) same,
@@ -119,7 +114,7 @@ module _ (page₀ : List ℕ) (o e : ℕ) (even : o % 4 ≡ 0) where
       (λ (f : fills w bytes ≡ false).
       let n = unfilled w bytes pieces off took f in
       let rest = addition (grown w t) pieces in
-      let short : length (payload ++ t) < maxChunkSize = not-full (w .pending + length t) (length (payload ++ t)) (omega arith) (omega arith) (eqb-false (w .pending + length t) 4076 f) in
+      let short : length (payload ++ t) < maxChunkSize = not-full (w .pending + length t) (length (payload ++ t)) (omega arith) (omega arith) (eqb-false (w .pending + length t) maxChunkSize f) in
       let la : length ((payload ++ t) ++ rest) ≡ length (payload ++ t) + length rest = length-append (payload ++ t) rest in
       stored-same _ _ page _ _ (ap (λ (x : List ℕ). payload ++ x) (n .0) ∙ sym (append-assoc payload t rest)) (n .1)
       (stored-behind page₀ o ((payload ++ t) ++ rest) page (payloadOps w t) (additionOps e (grown w t) pieces) (piece-behind o w t at)

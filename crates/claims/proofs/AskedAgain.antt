@@ -7,12 +7,10 @@ use lib.ListN.{length}
 use Rattle.types.specs.Refusals.{numberOf}
 use Rattle.types.specs.declared.page_id.PageID.{PageID}
 use Rattle.types.specs.declared.refusal.Refusal.{Refusal}
-use Rattle.flash.specs.Geometry.{pageOf}
-use Rattle.page.specs.Headers.{headerOf}
 use Rattle.run.specs.declared.bound.Bound.{Bound}
 use Rattle.types.specs.Answers.{outcomeTold, pageOfTold}
 use Rattle.reader.specs.Answers.{countTold, endTestTold, dehydrationTold}
-use Rattle.reader.specs.Calls.{filled, readHeader, readHeaderBytes, openPage, openBytes, read, skip, isAtEof, dehydrate, rehydrateFrom, pageId}
+use Rattle.reader.specs.Calls.{readHeader, openPage, read, skip, isAtEof, dehydrate, rehydrateFrom, pageId}
 use Rattle.reader.specs.declared.answers.Count.{Count}
 use Rattle.reader.specs.declared.answers.Count.the-variants as count
 use Rattle.reader.specs.declared.answers.EndTest.{EndTest}
@@ -22,6 +20,7 @@ use Rattle.types.specs.declared.answers.Outcome.the-variants as outcome
 use Rattle.reader.specs.declared.answers.Passage.{Passage}
 use Rattle.reader.specs.declared.page_reader.PageReader.{PageReader}
 use Rattle.reader.proofs.AgainLaws.{read-refused-so, skip-kept, eof-kept, open-reader-kept, rehydrate-kept}
+use Rattle.reader.proofs.OpenLaws.{read-header-kept, open-kept as open-bytes-kept}
 use Rattle.cursor.specs.Answers.{nextTold}
 use Rattle.cursor.specs.New.{newOf}
 use Rattle.cursor.specs.Next.{nextOf}
@@ -79,24 +78,24 @@ module _ (flash : List ℕ) (slots : Slots) (r : PageReader) where
   Kept call buffer = (n : ℕ) × ((other : List ℕ) → sameRoom call other ≡ sameRoom call buffer → readerLeft flash slots call r other ≡ record { number = n; state = r; lent = other })
 
   header-kept : (magic : ℕ) (page : PageID) (buffer : List ℕ) → IsRefused (readerLeft flash slots (readsHeader magic page) r buffer) → Kept (readsHeader magic page) buffer
-  unfolding readerLeft readHeaderBytes
+  unfolding readerLeft
   header-kept magic page buffer e =
       let w = outcome-refused (readHeader flash magic page (length buffer)) e in (
         numberOf (w .0),
         λ other q.
             let a : readHeader flash magic page (length other) ≡ outcome.Refused (w .0) = rw q (w .1) in
-            left-is _ _ _ _ _ _ (ap (λ (x : Outcome). outcomeTold x .number) a) refl (ap (λ (x : Outcome). filled x (headerOf (pageOf (page .0) flash) (length other)) other) a),
+            left-is _ _ _ _ _ _ (ap (λ (x : Outcome). outcomeTold x .number) a) refl (sym (read-header-kept flash magic page other (w .0) a)),
       )
 
   open-kept : (magic : ℕ) (page : PageID) (buffer : List ℕ) → IsRefused (readerLeft flash slots (opens magic page) r buffer) → Kept (opens magic page) buffer
-  unfolding readerLeft openBytes
+  unfolding readerLeft
   open-kept magic page buffer e =
       let w = outcome-refused (openPage r flash magic page (length buffer) .answer) e in (
         numberOf (w .0),
         λ other q.
             let a : openPage r flash magic page (length other) .answer ≡ outcome.Refused (w .0) = rw q (w .1) in
             left-is _ _ _ _ _ _ (ap (λ (x : Outcome). outcomeTold x .number) a) (open-reader-kept r flash (w .0) magic page (length other) a)
-            (ap (λ (x : Outcome). filled x (headerOf (pageOf (page .0) flash) (length other)) other) a),
+            (sym (open-bytes-kept flash magic page other (w .0) r a)),
       )
 
   read-kept : (buffer : List ℕ) → IsRefused (readerLeft flash slots reads r buffer) → Kept reads buffer

@@ -3,7 +3,7 @@ use mathlib.Core.Path.{_≡_, refl, sym, ap, _∙_}
 use mathlib.Core.Bool.{Bool, true, false, cond}
 use mathlib.Core.List.{List, [], _∷_, _++_, append-nil}
 use mathlib.Core.Logic.{⊎-elim}
-use Prim.Native.Nat.{ℕ, _+_, _-_, _≤_, _<_}
+use Prim.Native.Nat.{ℕ, _-_, _≤_, _<_}
 use native.Mathlib.Omega.{arith}
 use lib.Dec.{eqb}
 use lib.ListN.{length, take}
@@ -13,25 +13,31 @@ use Rattle.types.specs.declared.refusal.Refusal.the-variants.{Cut}
 use Rattle.types.proofs.TestLaws.{le-or-lt, decided}
 use Rattle.types.specs.declared.page_id.PageID.{PageID}
 use Rattle.types.specs.declared.refusal.Verdict.{Verdict}
-use Rattle.types.specs.declared.refusal.Verdict.the-variants as verdict
 use Rattle.types.specs.declared.refusal.Verdict.the-variants.{Fine}
-use Rattle.flash.specs.Geometry.{flashFine, hasPage, pageStart, pageOf}
+use Rattle.flash.specs.Geometry.{flashFine, hasPage, pageStart}
 use Rattle.flash.specs.Operations.{Op, applied, allowed}
 use Rattle.flash.proofs.OperationLaws.{applied-append, take-append}
 use Rattle.flash.proofs.PageLaws.{length-applied}
-use Rattle.page.specs.Walks.{walkEnd}
-use Rattle.page.specs.declared.walk.Ending.{Ending}
-use Rattle.page.specs.declared.walk.Ending.the-variants.{EndAt, Corrupted}
-use Rattle.writer.specs.States.{firstChunk, inRange}
-use Rattle.writer.specs.Commits.{commitOps, nextChunk}
-use Rattle.writer.specs.Openings.{openedAfter, appended, appendedAt}
-use Rattle.writer.specs.Outcomes.{ended, endedFlash}
-use Rattle.writer.specs.Checks.{writerCheck, openCheck}
+use Rattle.writer.specs.States.{inRange}
+use Rattle.writer.specs.Calls.{World, writes, commits, dutyIn}
+use Rattle.writer.specs.Commits.{nextChunk}
+use Rattle.writer.specs.Duties.{Duty, handsBack, leaves}
+use Rattle.writer.specs.Checks.{writerCheck}
 use Rattle.writer.specs.Writes.{takes, takenOf, grown, isFull, writeOps, written}
 use Rattle.types.specs.declared.answers.Outcome.the-variants.{Done, Refused}
 use Rattle.writer.specs.declared.page_writer.PageWriter.{PageWriter}
+use Rattle.writer.proofs.FineLaws.{writerCheck-fine}
+use Rattle.writer.proofs.OutcomeLaws.{checkedAs}
 use Rattle.writer.proofs.RangeLaws.{write-range}
 use Rattle.claims.specs.Additions.{fills, goOn, afterWrites, additionOps}
+
+-- ---- what a call leaves
+
+abbrev pub inWorld : List ℕ → PageWriter → ℕ → World
+inWorld xs w left = record { flash = xs; writer = w; left = left }
+
+abbrev pub leftBehind : Duty → World → World
+leftBehind d x = inWorld (leaves d (x .writer) (x .left) (x .flash)) (handsBack d (x .writer) (x .left) .writer) (handsBack d (x .writer) (x .left) .left)
 
 -- ---- operations in two parts
 
@@ -49,8 +55,7 @@ pub record Going (n : ℕ) (w : PageWriter) : Type 0 where
   pub there : hasPage n (w .page .0) ≡ true
 
 going-fine : (n : ℕ) (w : PageWriter) → Going n w → writerCheck n w ≡ Fine
-unfolding writerCheck
-going-fine n w g = rw (g .shape, g .range, g .there)
+going-fine n w g = writerCheck-fine n w (g .shape) (g .range) (g .there)
 
 pub written-page : (w : PageWriter) (bytes : List ℕ) → written w bytes .page ≡ w .page
 written-page w bytes = by (eqb (takes (length bytes) w) 0) (isFull (grown w (takenOf w bytes)))
@@ -60,17 +65,6 @@ written-page w bytes = by (eqb (takes (length bytes) w) 0) (isFull (grown w (tak
     by false true = refl
     by false false = refl
 
--- the writer that open_append hands back stands on the page that it was asked for
-pub append-page : (e : ℕ) (xs : List ℕ) (page : PageID) (h : ℕ) (w : PageWriter) (k : ℕ) → appended e xs page h w k .answer ≡ Done → appended e xs page h w k .writer .page ≡ page
-unfolding appended
-append-page e xs page h w k a = by (openCheck (length xs) (page .0) h) (walkEnd (pageOf (page .0) xs) (firstChunk h)) a
-  where
-    by : (v : Verdict) (end : Ending) → openedAfter v w k (appendedAt e (pageOf (page .0) xs) page h w k end) .answer ≡ Done
-        → openedAfter v w k (appendedAt e (pageOf (page .0) xs) page h w k end) .writer .page ≡ page
-    by (verdict.Refused why) end a = let z : _≡_ {A = ℕ} 0 1 = cc in absurd (omega arith)
-    by verdict.Fine Corrupted a = let z : _≡_ {A = ℕ} 0 1 = cc in absurd (omega arith)
-    by verdict.Fine (EndAt o) a = refl
-
 going-on : (n : ℕ) (w : PageWriter) (bytes : List ℕ) → Going n w → Going n (written w bytes)
 going-on n w bytes g = record {
   shape = g .shape;
@@ -79,11 +73,16 @@ going-on n w bytes g = record {
 }
 
 -- THE CALLS: what they leave is the first k of all their operations
-pub calls-made : (e : ℕ) (pieces : List (List ℕ)) (w : PageWriter) (left : ℕ) (xs : List ℕ) → Going (length xs) w
-    → afterWrites e pieces w left xs ≡ allowed (pageStart (w .page .0)) left (additionOps e w pieces) xs
+pub calls-made : (e : ℕ) (pieces : List (List ℕ)) (x : World) → Going (length (x .flash)) (x .writer)
+    → afterWrites e pieces x ≡ allowed (pageStart (x .writer .page .0)) (x .left) (additionOps e (x .writer) pieces) (x .flash)
 unfolding afterWrites additionOps
-calls-made e [] w left xs g = ap (λ (v : Verdict). endedFlash v (commitOps e w) w left xs) (going-fine (length xs) w g)
-calls-made e (bytes ∷ pieces) w left xs g =
+calls-made e [] x g =
+    ap (λ (v : Verdict). leaves (checkedAs (dutyIn e x commits) v) (x .writer) (x .left) (x .flash)) (going-fine (length (x .flash)) (x .writer) g)
+calls-made e (bytes ∷ pieces) x g =
+    let xs = x .flash in
+    let w = x .writer in
+    let left = x .left in
+    let d = dutyIn e x (writes bytes) in
     let ops = writeOps e w bytes in
     let base = pageStart (w .page .0) in
     let ys = allowed base left ops xs in
@@ -93,27 +92,27 @@ calls-made e (bytes ∷ pieces) w left xs g =
     let same : length ys ≡ length xs = length-applied base (take left ops) xs in
     let next : Going (length ys) v = rw same (going-on (length xs) w bytes g) in
     ap
-    (λ (x : Verdict).
-    goOn (ended x ops v w left .answer)
-    (cond (fills w bytes) (endedFlash x ops w left xs) (afterWrites e pieces (ended x ops v w left .writer) (ended x ops v w left .left) (endedFlash x ops w left xs)))
-    (endedFlash x ops w left xs))
+    (λ (c : Verdict).
+    goOn (handsBack (checkedAs d c) w left .answer)
+    (cond (fills w bytes) (leaves (checkedAs d c) w left xs) (afterWrites e pieces (leftBehind (checkedAs d c) x)))
+    (leaves (checkedAs d c) w left xs))
     fine
     ∙ ⊎-elim
     (λ (all : length ops ≤ left).
-    ap (λ (t : Bool). goOn (cond t Done (Refused Cut)) (cond (fills w bytes) ys (afterWrites e pieces (cond t v w) (left - length ops) ys)) ys) (le-leb (length ops) left all)
+    ap (λ (t : Bool). goOn (cond t Done (Refused Cut)) (cond (fills w bytes) ys (afterWrites e pieces (inWorld ys (cond t v w) (left - length ops)))) ys) (le-leb (length ops) left all)
     ∙ ⊎-elim
     (λ (f : fills w bytes ≡ true).
-    ap (λ (t : Bool). cond t ys (afterWrites e pieces v (left - length ops) ys)) f
+    ap (λ (t : Bool). cond t ys (afterWrites e pieces (inWorld ys v (left - length ops)))) f
     ∙ ap (λ (l : List Op). allowed base left l xs) (sym (append-nil ops))
     ∙ ap (λ (t : Bool). allowed base left (ops ++ cond t [] rest) xs) (sym f))
     (λ (f : fills w bytes ≡ false).
-    ap (λ (t : Bool). cond t ys (afterWrites e pieces v (left - length ops) ys)) f
-    ∙ calls-made e pieces v (left - length ops) ys next
+    ap (λ (t : Bool). cond t ys (afterWrites e pieces (inWorld ys v (left - length ops)))) f
+    ∙ calls-made e pieces (inWorld ys v (left - length ops)) next
     ∙ ap (λ (p : PageID). allowed (pageStart (p .0)) (left - length ops) rest ys) (written-page w bytes)
     ∙ allowed-append base left ops rest xs
     ∙ ap (λ (t : Bool). allowed base left (ops ++ cond t [] rest) xs) (sym f))
     (decided (fills w bytes)))
     (λ (cut : left < length ops).
-    ap (λ (t : Bool). goOn (cond t Done (Refused Cut)) (cond (fills w bytes) ys (afterWrites e pieces (cond t v w) (left - length ops) ys)) ys) (lt-leb (length ops) left cut)
+    ap (λ (t : Bool). goOn (cond t Done (Refused Cut)) (cond (fills w bytes) ys (afterWrites e pieces (inWorld ys (cond t v w) (left - length ops)))) ys) (lt-leb (length ops) left cut)
     ∙ allowed-cut base left ops (cond (fills w bytes) [] rest) xs (omega arith))
     (le-or-lt (length ops) left)

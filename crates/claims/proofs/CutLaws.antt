@@ -1,37 +1,37 @@
 -- What a cut leaves for a walk over the page, for any flash, page, higher header, pieces and number of stores. Assumes nothing.
-use mathlib.Core.Path.{_≡_, refl, sym, ap, _∙_}
+use mathlib.Core.Path.{_≡_, refl, sym, ap, subst, _∙_}
 use mathlib.Core.Bool.{Bool, true, false, cond}
 use mathlib.Core.List.{List, []}
 use mathlib.Core.Logic.{⊎-elim}
-use Prim.Native.Nat.{ℕ, _+_, _-_, _%_, _≤_, _<_}
+use Prim.Native.Nat.{ℕ, _+_, _%_, _≤_, _<_}
 use native.Mathlib.Omega.{arith}
-use lib.ListN.{length, take, drop, replicate}
+use lib.ListN.{length, take, drop}
 use borrow.Author.Tests.{eqb-true, ltb-true}
 use Rattle.types.specs.Build.{pageSize}
 use Rattle.types.specs.declared.page_id.PageID.{PageID}
 use Rattle.types.proofs.TestLaws.{both-true, decided, le-or-lt}
-use Rattle.crc.specs.Register.{updated}
 use Rattle.flash.specs.Geometry.{flashFine, hasPage, pageStart, pageOf}
 use Rattle.flash.specs.Operations.{Op, applied, allowed}
 use Rattle.flash.proofs.GeometryLaws.{page-inside, length-page}
 use Rattle.flash.proofs.PageLaws.{page-applied}
-use Rattle.slices.proofs.PatchLaws.{patch-none}
 use Rattle.page.specs.Headers.{headerFine}
 use Rattle.page.specs.Walks.{walkFrom, allErased}
 use Rattle.page.specs.declared.walk.Ending.the-variants.{EndAt}
+use Rattle.page.proofs.CheckLaws.{openCheck-fine}
 use Rattle.page.proofs.LaidLaws.{walk-ended}
-use Rattle.writer.specs.Openings.{appended, appendedAt, resumeAt}
+use Rattle.writer.specs.Calls.{openedOn}
+use Rattle.writer.specs.Openings.{appended, resumeAt}
 use Rattle.writer.specs.States.{firstChunk, fresh, inRange}
-use Rattle.writer.specs.Checks.{openCheck}
-use Rattle.writer.specs.declared.answers.Opened.{Opened}
+use Rattle.writer.specs.declared.answers.Ended.{Ended}
 use Rattle.types.specs.declared.answers.Outcome.the-variants.{Done}
 use Rattle.writer.specs.declared.page_writer.PageWriter.{PageWriter}
+use Rattle.writer.proofs.OpeningLaws.{append-fine}
 use Rattle.writer.proofs.RangeLaws.{append-range}
-use Rattle.claims.specs.Additions.{added, opened, afterWrites, additionOps, addition}
-use Rattle.claims.proofs.AddingLaws.{Adding}
+use Rattle.claims.specs.Additions.{added, goOn, afterWrites, additionOps, addition}
+use Rattle.writer.proofs.AddingLaws.{Adding, adding-none}
 use Rattle.claims.proofs.AdditionLaws.{addition-stored, addition-none}
-use Rattle.claims.proofs.CallLaws.{Going, calls-made}
-use Rattle.claims.proofs.ClosingLaws.{Stored}
+use Rattle.claims.proofs.CallLaws.{inWorld, Going, calls-made}
+use Rattle.writer.proofs.ClosingLaws.{Stored}
 use Rattle.claims.proofs.PageCutLaws.{Room}
 
 -- what an opening that is not refused for 5, 6 or 4 has shown
@@ -50,13 +50,13 @@ module _ (e : ℕ) (xs : List ℕ) (page : PageID) (h : ℕ) (w : PageWriter) (k
   writer = fresh false page h (resumeAt e bytes o)
 
   pub append-as : appended e xs page h w k ≡ record { answer = Done; writer = writer; left = k }
-  unfolding appended openCheck
-  append-as = rw (shape .flash, shape .header, shape .there) (ap (appendedAt e bytes page h w k) ends)
+  append-as =
+      sym (append-fine xs page h w k e bytes o (resumeAt e bytes o) writer (openCheck-fine (length xs) h page (shape .flash) (shape .header) (shape .there)) refl ends refl refl)
 
   going : Going (length xs) writer
   going = record {
     shape = shape .flash;
-    range = ap (λ (r : Opened). inRange (r .writer)) (sym append-as) ∙ append-range e xs page h w k (ap (λ (r : Opened). r .answer) append-as);
+    range = ap (λ (r : Ended). inRange (r .writer)) (sym append-as) ∙ append-range e xs page h w k (ap (λ (r : Ended). r .answer) append-as);
     there = shape .there;
   }
 
@@ -76,7 +76,7 @@ module _ (e : ℕ) (xs : List ℕ) (page : PageID) (h : ℕ) (w : PageWriter) (k
     -- the calls make the first k operations
     pub added-flash : added e xs page h w k pieces ≡ allowed (pageStart (page .0)) k ops xs
     unfolding added
-    added-flash = ap (λ (r : Opened). opened (r .answer) (afterWrites e pieces (r .writer) (r .left) xs) xs) append-as ∙ calls-made e pieces writer k xs going
+    added-flash = ap (λ (r : Ended). goOn (r .answer) (afterWrites e pieces (openedOn xs r)) xs) append-as ∙ calls-made e pieces (inWorld xs writer k) going
 
     -- on the page alone
     pub added-page : pageOf (page .0) (added e xs page h w k pieces) ≡ applied 0 (take k ops) bytes
@@ -107,17 +107,7 @@ module _ (e : ℕ) (xs : List ℕ) (page : PageID) (h : ℕ) (w : PageWriter) (k
       room = record { whole = whole; ends = ends; clean = clean }
 
       adding : Adding bytes o writer [] bytes
-      unfolding updated
-      adding = record {
-        id = page;
-        h = h;
-        total = 0;
-        buf = replicate 4 0;
-        held = ap (fresh false page h) at-end;
-        four = refl;
-        top = refl;
-        stored = sym (patch-none (o + 8) bytes);
-      }
+      adding = subst (λ (v : PageWriter). Adding bytes o v [] bytes) (ap (fresh false page h) (sym at-end)) (adding-none bytes o page h)
 
       pub stored : Stored bytes o payload bytes ops
       stored =

@@ -2,13 +2,14 @@
 use mathlib.Core.Path.{_≡_, sym, ap, subst, _∙_}
 use mathlib.Core.Bool.{Bool, true, false, cond}
 use mathlib.Core.List.{List, [], _∷_, _++_}
-use Prim.Native.Nat.{ℕ, zero, suc, _+_, _%_, _≤_, _<_}
-use native.Mathlib.Omega.{arith}
+use Prim.Native.Nat.{ℕ, _+_, _%_, _≤_, _<_}
 use lib.ListN.{length, take}
 use Rattle.types.specs.Build.{pageSize, pageHeaderSize}
 use Rattle.types.specs.Bytes.{Bytes, word}
+use Rattle.types.proofs.BytesLaws.{bytes-none, bytes-append}
 use Rattle.types.specs.declared.page_id.PageID.{PageID}
 use Rattle.crc.specs.Published.{published}
+use Rattle.crc.proofs.WordLaws.{bytes-take}
 use Rattle.flash.specs.Geometry.{flashFine, hasPage, pageOf}
 use Rattle.flash.specs.Operations.{Op, applied}
 use Rattle.slices.specs.Patch.{blank}
@@ -22,34 +23,17 @@ use Rattle.page.proofs.LaidLaws.{walk-ended}
 use Rattle.writer.specs.Openings.{appended, resumeAt}
 use Rattle.writer.specs.States.{fresh}
 use Rattle.writer.specs.Writes.{takes, takenOf, written}
-use Rattle.writer.specs.declared.answers.Opened.{Opened}
+use Rattle.writer.specs.declared.answers.Ended.{Ended}
 use Rattle.writer.specs.declared.page_writer.PageWriter.{PageWriter}
 use Rattle.claims.specs.Additions.{fills, addition, additionOps, added, newPayload, storeCount}
 use Rattle.reader.specs.Finds.{payloadOf}
 use Rattle.claims.specs.Pages.{AllBytes, Good, payloads}
-use Rattle.claims.proofs.ClosingLaws.{Stored}
+use Rattle.writer.proofs.ClosingLaws.{Stored}
 use Rattle.claims.proofs.CutLaws.{Shape, append-as, added-page, even, room, stored}
 use Rattle.claims.proofs.GoodLaws.{good-same, good-more}
 use Rattle.claims.proofs.PageCutLaws.{Room, walk-before, walk-after, payload-after, below-kept}
 
 -- ---- what is taken of bytes is bytes
-
-bytes-none : Bytes []
-unfolding Bytes
-bytes-none i = omega arith
-
-bytes-append : (a b : List ℕ) → Bytes a → Bytes b → Bytes (a ++ b)
-unfolding Bytes
-bytes-append [] b p q i = q i
-bytes-append (x ∷ a) b p q zero = p 0
-bytes-append (x ∷ a) b p q (suc i) = bytes-append a b (λ j. p (suc j)) q i
-
-bytes-take : (n : ℕ) (a : List ℕ) → Bytes a → Bytes (take n a)
-unfolding Bytes
-bytes-take zero a p i = omega arith
-bytes-take (suc n) [] p i = omega arith
-bytes-take (suc n) (x ∷ a) p zero = p 0
-bytes-take (suc n) (x ∷ a) p (suc i) = bytes-take n a (λ j. p (suc j)) i
 
 addition-bytes : (pieces : List (List ℕ)) (w : PageWriter) → AllBytes pieces → Bytes (addition w pieces)
 unfolding addition
@@ -79,7 +63,7 @@ module _ (e : ℕ) (unmarked : word (blank e 2) ≡ chunkMagic → ⊥) (xs : Li
   writer = fresh false page h (resumeAt e before o)
 
   is-writer : appended e xs page h w k .writer ≡ writer
-  is-writer = ap (λ (r : Opened). r .writer) (append-as e xs page h w k o shape (good .ends))
+  is-writer = ap (λ (r : Ended). r .writer) (append-as e xs page h w k o shape (good .ends))
 
   abbrev payload : List ℕ
   payload = addition writer pieces

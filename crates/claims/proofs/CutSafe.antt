@@ -1,7 +1,7 @@
 -- What a new reader finds after a cut (docs/RULES.md, Stores left). A new reader opens the page and reads to the end, each read
 -- into a buffer that holds a whole chunk (`found`: what its calls hand out and how they end) or into buffers of any sizes
 -- (`foundWith`). Assumes nothing.
-use mathlib.Core.Path.{_≡_, refl, ap, subst, _∙_}
+use mathlib.Core.Path.{_≡_, sym, ap, subst, _∙_}
 use mathlib.Core.Bool.{true}
 use mathlib.Core.List.{List, [], _∷_, _++_, flatten}
 use Prim.Native.Nat.{ℕ, _+_, _≤_, _<_}
@@ -10,27 +10,26 @@ use lib.ListN.{length}
 use Rattle.types.specs.Bytes.{word}
 use Rattle.types.specs.Build.{eraseValue, pageHeaderSize, maxChunkSize}
 use Rattle.types.specs.declared.page_id.PageID.{PageID}
-use Rattle.types.specs.declared.refusal.Refusal.the-variants as row
 use Rattle.types.specs.declared.refusal.Verdict.the-variants.{Fine}
 use Rattle.flash.specs.Geometry.{flashFine, hasPage, pageOf}
 use Rattle.slices.specs.Patch.{blank}
 use Rattle.slices.proofs.PatchLaws.{length-blank}
-use Rattle.page.specs.Chunks.{chunkMagic, nextOffset, checkedAt}
-use Rattle.page.specs.Headers.{headerOf, pageHeaderFine}
+use Rattle.page.specs.Chunks.{chunkMagic, nextOffset}
+use Rattle.page.specs.Headers.{headerOf}
 use Rattle.page.specs.Walks.{Chunk, walkFrom}
-use Rattle.page.specs.declared.chunk.Step.{Step}
-use Rattle.page.specs.declared.chunk.Step.the-variants as step
+use Rattle.page.proofs.CheckLaws.{openCheck-fine}
+use Rattle.page.proofs.ErasedLaws.{mark-shown}
 use Rattle.page.proofs.LaidLaws.{All}
-use Rattle.reader.specs.Calls.{openPage, openBytes, filled}
-use Rattle.reader.specs.Checks.{openCheck}
-use Rattle.reader.specs.Finds.{Found, NotEmpty, found, foundWith, joined, readAll}
+use Rattle.reader.specs.Calls.{openPage}
+use Rattle.reader.specs.Finds.{Found, NotEmpty, found, foundWith, joined}
 use Rattle.reader.specs.States.{newReader}
-use Rattle.types.specs.declared.answers.Outcome.{Outcome}
-use Rattle.types.specs.declared.answers.Outcome.the-variants.{Done, Refused}
+use Rattle.types.specs.declared.answers.Outcome.the-variants.{Done}
 use Rattle.reader.specs.declared.page_reader.PageReader.{PageReader}
 use Rattle.reader.proofs.BufferLaws.{any-buffers}
+use Rattle.reader.proofs.CallLaws.{openPage-answer, found-with, foundWith-opened}
 use Rattle.reader.proofs.FoundLaws.{found-whole}
 use Rattle.reader.proofs.GoodLaws.{Right as SumRight}
+use Rattle.reader.proofs.OpenLaws.{open-filled}
 use Rattle.writer.specs.declared.page_writer.PageWriter.{PageWriter}
 use Rattle.claims.specs.Additions.{added, newPayload, storeCount, addedPayload}
 use Rattle.claims.specs.Histories.{Episode, AllPieces, history, keptPayloads}
@@ -50,64 +49,34 @@ all-sums : (page : List ℕ) (cs : List Chunk) → AllRight page cs → All (Sum
 all-sums page [] r = tt
 all-sums page (c ∷ cs) r = (r .0 .sum, all-sums page cs (r .1))
 
-open-fine : (n h : ℕ) (page : PageID) (o : ℕ) (bytes : List ℕ) (magic : ℕ) → flashFine n ≡ true → hasPage n (page .0) ≡ true → Good magic (page .0) h o bytes → openCheck n h page ≡ Fine
-unfolding openCheck
-open-fine n h page o bytes magic f t g = rw (f, g .length-fine, t)
-
 pub good-found : (xs : List ℕ) (magic : ℕ) (page : PageID) (h o : ℕ) → flashFine (length xs) ≡ true → hasPage (length xs) (page .0) ≡ true → Good magic (page .0) h o (pageOf (page .0) xs)
     → found xs magic page h ≡ finds (payloads (pageOf (page .0) xs) h)
 good-found xs magic page h o fine there good =
     let bytes = pageOf (page .0) xs in
     let cs = walkFrom bytes (pageHeaderSize + h) .chunks in
-    found-whole xs magic page h o (open-fine (length xs) h page o bytes magic fine there good) (good .header) (all-some bytes cs (good .chunks)) (all-sums bytes cs (good .chunks)) (good .ends)
+    found-whole xs magic page h o (openCheck-fine (length xs) h page fine (good .length-fine) there) (good .header) (all-some bytes cs (good .chunks)) (all-sums bytes cs (good .chunks)) (good .ends)
 
 -- with any rooms
 good-rooms : (xs : List ℕ) (magic : ℕ) (page : PageID) (h o : ℕ) → flashFine (length xs) ≡ true → hasPage (length xs) (page .0) ≡ true → Good magic (page .0) h o (pageOf (page .0) xs)
     → (buffers : ℕ → List ℕ) → SomeRoom buffers → joined (foundWith buffers xs magic page h) ≡ handsOut (flatten (payloads (pageOf (page .0) xs) h))
-unfolding found
 good-rooms xs magic page h o fine there good buffers rooms =
     let bytes = pageOf (page .0) xs in
     any-buffers xs magic page h (all-some bytes (walkFrom bytes (pageHeaderSize + h) .chunks) (good .chunks)) buffers (λ i. blank 0 maxChunkSize) rooms (λ i. rw length-blank (omega arith))
-    ∙ ap joined (good-found xs magic page h o fine there good)
+    ∙ ap joined (sym (found-with xs magic page h) ∙ good-found xs magic page h o fine there good)
 
 -- ---- a good page, opened
 
-done-by : (further : PageReader → Found) (a : Outcome) (r : PageReader) → readAll further a r .ends ≡ Fine → a ≡ Done
-done-by further Done r e = refl
-done-by further (Refused why) r e = let z : _≡_ {A = ℕ} 0 1 = cc in absurd (omega arith)
-
--- reads that end well follow an open that is done
-found-opened : (xs : List ℕ) (magic : ℕ) (page : PageID) (h : ℕ) (parts : List (List ℕ)) → found xs magic page h ≡ finds parts → openPage newReader xs magic page h .answer ≡ Done
-unfolding found foundWith
-found-opened xs magic page h parts f = done-by _ (openPage newReader xs magic page h .answer) (openPage newReader xs magic page h .reader) (ap (λ (x : Found). x .ends) f)
-
--- whose reader it is makes no difference
-open-any : (r : PageReader) (xs : List ℕ) (magic : ℕ) (page : PageID) (h : ℕ) → openCheck (length xs) h page ≡ Fine → pageHeaderFine (pageOf (page .0) xs) magic (page .0) h ≡ true
-    → openPage newReader xs magic page h .answer ≡ Done → openPage r xs magic page h .answer ≡ Done
-unfolding openPage
-open-any r xs magic page h v f d = by (checkedAt (pageOf (page .0) xs) (pageHeaderSize + h)) refl
-  where
-    by : (x : Step) → checkedAt (pageOf (page .0) xs) (pageHeaderSize + h) ≡ x → openPage r xs magic page h .answer ≡ Done
-    by step.End c = rw (v, f, c)
-    by (step.Chunk len crc next) c = rw (v, f, c)
-    by step.Corrupted c =
-        let q : openPage newReader xs magic page h .answer ≡ Refused row.Corrupted = rw (v, f, c) in
-        let z : _≡_ {A = ℕ} 0 1 = cc in
-        absurd (omega arith)
-
 good-opens : (xs : List ℕ) (magic : ℕ) (page : PageID) (h o : ℕ) → flashFine (length xs) ≡ true → hasPage (length xs) (page .0) ≡ true → Good magic (page .0) h o (pageOf (page .0) xs)
     → Opens xs magic page h (headerOf (pageOf (page .0) xs) h)
-unfolding openBytes
 good-opens xs magic page h o fine there good =
-    let header = headerOf (pageOf (page .0) xs) h in
+    let ends : foundWith (λ i. blank 0 maxChunkSize) xs magic page h .ends ≡ Fine =
+    ap (λ (f : Found). f .ends) (sym (found-with xs magic page h) ∙ good-found xs magic page h o fine there good) in
     let opens : (r : PageReader) → openPage r xs magic page h .answer ≡ Done =
-    λ r. open-any r xs magic page h (open-fine (length xs) h page o (pageOf (page .0) xs) magic fine there good) (good .header)
-    (found-opened xs magic page h (payloads (pageOf (page .0) xs) h) (good-found xs magic page h o fine there good)) in
+    λ r. openPage-answer r newReader xs magic page h ∙ foundWith-opened (λ i. blank 0 maxChunkSize) xs magic page h ends in
     record {
       done = opens;
       header = λ r buffer l.
-          ap (λ (n : ℕ). filled (openPage r xs magic page n .answer) (headerOf (pageOf (page .0) xs) n) buffer) l
-          ∙ ap (λ (a : Outcome). filled a header buffer) (opens r);
+          sym (open-filled xs magic page buffer r (rw l (opens r))) ∙ ap (headerOf (pageOf (page .0) xs)) l;
     }
 
 -- ---- a cut
@@ -159,11 +128,6 @@ module _ (xs ys : List ℕ) (page : PageID) (magic h : ℕ) (more : List (List �
 
 -- ---- for the erase value of the build that we ship
 
--- its bytes are no chunk's mark
-unmarked : word (blank eraseValue 2) ≡ chunkMagic → ⊥
-unfolding word blank
-unmarked e = let z : _≡_ {A = ℕ} 0xFFFF 0x59C5 = e in omega arith
-
 -- on a good page of a flash in shape: open_append, writes of bytes and a commit, with k stores allowed in all
 module _ (xs : List ℕ) (page : PageID) (magic h o : ℕ) (w : PageWriter) (k : ℕ) (pieces : List (List ℕ))
     (fine : flashFine (length xs) ≡ true) (there : hasPage (length xs) (page .0) ≡ true) (good : Good magic (page .0) h o (pageOf (page .0) xs)) (bytes : AllBytes pieces) where
@@ -174,7 +138,7 @@ module _ (xs : List ℕ) (page : PageID) (magic h o : ℕ) (w : PageWriter) (k :
   new = addedPayload eraseValue xs page h w k pieces
 
   holds-then : Holds magic (page .0) h (pageOf (page .0) xs) (pageOf (page .0) then) new
-  holds-then = addition-holds eraseValue unmarked page magic h w xs k pieces o fine there good bytes
+  holds-then = addition-holds eraseValue mark-shown page magic h w xs k pieces o fine there good bytes
 
   -- CUT SAFE: a new reader finds exactly the old payloads; and behind them the new one, where bytes were taken and the last store was made
   pub cut-safe : found (added eraseValue xs page h w k pieces) magic page h ≡ finds (payloads (pageOf (page .0) xs) h ++ addedPayload eraseValue xs page h w k pieces)
@@ -200,7 +164,7 @@ module _ (page : PageID) (magic h : ℕ) (ts : List Episode) (xs : List ℕ) (o 
   kept = keptPayloads eraseValue xs page h ts
 
   holds-last : Holds magic (page .0) h (pageOf (page .0) xs) (pageOf (page .0) last) kept
-  holds-last = history-holds eraseValue unmarked page magic h ts xs o fine there good bytes
+  holds-last = history-holds eraseValue mark-shown page magic h ts xs o fine there good bytes
 
   -- CUT HISTORY: a new reader finds the old payloads and those of the chunks whose last store was made, in order
   pub cut-history : found (history eraseValue xs page h ts) magic page h ≡ finds (payloads (pageOf (page .0) xs) h ++ keptPayloads eraseValue xs page h ts)

@@ -9,25 +9,25 @@ use mathlib.Core.Logic.{_⊎_, ⊎-elim}
 use Prim.Native.Nat.{ℕ, _+_, _≤_, _<_}
 use lib.ListN.{length, take, getD}
 use Rattle.types.specs.declared.page_id.PageID.{PageID}
-use Rattle.types.specs.declared.refusal.Verdict.{Verdict}
-use Rattle.types.specs.declared.refusal.Verdict.the-variants.{Fine, Refused}
-use Rattle.flash.specs.Geometry.{pageStart, pageOf}
+use Rattle.types.proofs.HistoryLaws.{leftAfter-keeps}
+use Rattle.flash.specs.Geometry.{pageStart}
 use Rattle.flash.specs.Operations.{Op, made, applied, spent, allowed, allLieOn, allowedOn}
 use Rattle.flash.specs.Covers.{opAt, opBytes}
 use Rattle.flash.proofs.PageLaws.{made-patch, length-applied, other-page}
 use Rattle.slices.proofs.PatchLaws.{patch-below, patch-above}
-use Rattle.writer.specs.Duties.{Duty, writeDuty, commitDuty, handsBack, leaves, makes}
+use Rattle.writer.specs.Calls.{World, AddCall, writes, commits, dutyIn, handsBackIn, leavesIn, openedOn}
+use Rattle.writer.specs.Duties.{Duty, handsBack, leaves, makes}
 use Rattle.writer.specs.Openings.{appended}
-use Rattle.writer.specs.Outcomes.{ended, endedFlash, endedOps}
-use Rattle.writer.specs.Checks.{writerCheck}
-use Rattle.writer.specs.Writes.{writeOps, written}
+use Rattle.writer.specs.Writes.{written}
 use Rattle.types.specs.declared.answers.Outcome.{Outcome}
 use Rattle.types.specs.declared.answers.Outcome.the-variants as outcome
 use Rattle.writer.specs.declared.page_writer.PageWriter.{PageWriter}
-use Rattle.claims.specs.Additions.{fills, goOn, afterWrites, opened, added}
-use Rattle.claims.specs.Histories.{Episode, history}
+use Rattle.writer.proofs.OutcomeLaws.{by-check}
+use Rattle.claims.specs.Additions.{fills, goOn, afterWrites, added}
+use Rattle.claims.specs.Histories.{Episode, episodeLeaves, history}
 use Rattle.claims.specs.Untouched.{Uncovered, OthersKept, Elsewhere}
-use Rattle.claims.proofs.CallLaws.{append-page, written-page}
+use Rattle.writer.proofs.OpenedLaws.{appended-page}
+use Rattle.claims.proofs.CallLaws.{written-page}
 
 made-uncovered : (base : ℕ) (op : Op) (xs : List ℕ) (i d : ℕ) → (i < base + opAt op) ⊎ (base + opAt op + length (opBytes op) ≤ i) → getD (made base op xs) i d ≡ getD xs i d
 made-uncovered base op xs i d o =
@@ -55,11 +55,10 @@ asked-elsewhere p left ops xs = by (allLieOn (length xs) p ops)
 
 -- ELSEWHERE: any call of a writer
 pub elsewhere : (d : Duty) (w : PageWriter) (left : ℕ) (xs : List ℕ) → Elsewhere (w .page .0) (makes d left) xs (leaves d w left xs)
-elsewhere d w left xs = by (d .verdict) (d .ops)
-  where
-    by : (v : Verdict) (ops : List Op) → Elsewhere (w .page .0) (endedOps v ops left) xs (endedFlash v ops w left xs)
-    by (Refused why) ops = record { others = record { other-pages = λ q other. refl; long = refl }; uncovered = λ i d u. refl }
-    by Fine ops = operations-elsewhere (w .page .0) left ops xs
+elsewhere d w left xs =
+    by-check (λ (c : Duty). Elsewhere (w .page .0) (makes c left) xs (leaves c w left xs)) d
+    (λ why. record { others = record { other-pages = λ q other. refl; long = refl }; uncovered = λ i d u. refl })
+    (operations-elsewhere (w .page .0) left (d .ops) xs)
 
 -- ---- a whole addition, and a history of them
 
@@ -70,16 +69,19 @@ kept-then : (p : ℕ) (xs ys zs : List ℕ) → OthersKept p xs ys → OthersKep
 kept-then p xs ys zs a b = record { other-pages = λ q other. b .other-pages q other ∙ a .other-pages q other; long = b .long ∙ a .long }
 
 -- the writer that a write hands back stands on the page on which it stood
-back-page : (e : ℕ) (xs : List ℕ) (w : PageWriter) (bytes : List ℕ) (left : ℕ) → handsBack (writeDuty e xs w bytes) w left .writer .page ≡ w .page
-back-page e xs w bytes left = by (writerCheck (length xs) w)
+back-page : (e : ℕ) (x : World) (bytes : List ℕ) → leavesIn e x (writes bytes) .writer .page ≡ x .writer .page
+back-page e x bytes =
+    let d = dutyIn e x (writes bytes) in
+    by-check (λ (c : Duty). handsBack c (x .writer) (x .left) .writer .page ≡ x .writer .page) d (λ why. refl) (either (spent (x .left) (d .ops) .ok))
   where
-    either : (t : Bool) → cond t (written w bytes) w .page ≡ w .page
-    either true = written-page w bytes
+    either : (t : Bool) → cond t (written (x .writer) bytes) (x .writer) .page ≡ x .writer .page
+    either true = written-page (x .writer) bytes
     either false = refl
 
-    by : (v : Verdict) → ended v (writeOps e w bytes) (written w bytes) w left .writer .page ≡ w .page
-    by (Refused why) = refl
-    by Fine = either (spent left (writeOps e w bytes) .ok)
+-- a call keeps every other page
+call-kept : (e : ℕ) (page : PageID) (call : AddCall) (x : World) → x .writer .page ≡ page → OthersKept (page .0) (x .flash) (leavesIn e x call .flash)
+call-kept e page call x same =
+    subst (λ (p : PageID). OthersKept (p .0) (x .flash) (leavesIn e x call .flash)) same (elsewhere (dutyIn e x call) (x .writer) (x .left) (x .flash) .others)
 
 -- it ends with a write, or goes on
 ends-kept : (p : ℕ) (a : Outcome) (t : Bool) (xs ys zs : List ℕ) → OthersKept p xs ys → OthersKept p ys zs → OthersKept p xs (goOn a (cond t ys zs) ys)
@@ -87,18 +89,13 @@ ends-kept p (outcome.Refused why) t xs ys zs k l = k
 ends-kept p outcome.Done true xs ys zs k l = k
 ends-kept p outcome.Done false xs ys zs k l = kept-then p xs ys zs k l
 
-writes-kept : (e : ℕ) (page : PageID) (pieces : List (List ℕ)) (w : PageWriter) (left : ℕ) (xs : List ℕ) → w .page ≡ page
-    → OthersKept (page .0) xs (afterWrites e pieces w left xs)
+writes-kept : (e : ℕ) (page : PageID) (pieces : List (List ℕ)) (x : World) → x .writer .page ≡ page → OthersKept (page .0) (x .flash) (afterWrites e pieces x)
 unfolding afterWrites
-writes-kept e page [] w left xs same =
-    subst (λ (p : PageID). OthersKept (p .0) xs (leaves (commitDuty e xs w) w left xs)) same (elsewhere (commitDuty e xs w) w left xs .others)
-writes-kept e page (bytes ∷ pieces) w left xs same =
-    let d = writeDuty e xs w bytes in
-    let back = handsBack d w left in
-    let ys = leaves d w left xs in
-    ends-kept (page .0) (back .answer) (fills w bytes) xs ys (afterWrites e pieces (back .writer) (back .left) ys)
-    (subst (λ (p : PageID). OthersKept (p .0) xs ys) same (elsewhere d w left xs .others))
-    (writes-kept e page pieces (back .writer) (back .left) ys (back-page e xs w bytes left ∙ same))
+writes-kept e page [] x same = call-kept e page commits x same
+writes-kept e page (bytes ∷ pieces) x same =
+    let y = leavesIn e x (writes bytes) in
+    ends-kept (page .0) (handsBackIn e x (writes bytes) .answer) (fills (x .writer) bytes) (x .flash) (y .flash) (afterWrites e pieces y)
+    (call-kept e page (writes bytes) x same) (writes-kept e page pieces y (back-page e x bytes ∙ same))
 
 -- CUT ELSEWHERE: on any flash, good or not, whatever the writer at entry, the pieces and the number of stores
 pub cut-elsewhere : (e : ℕ) (xs : List ℕ) (page : PageID) (h : ℕ) (w : PageWriter) (k : ℕ) (pieces : List (List ℕ)) → OthersKept (page .0) xs (added e xs page h w k pieces)
@@ -106,14 +103,13 @@ unfolding added
 cut-elsewhere e xs page h w k pieces = by (appended e xs page h w k .answer) refl
   where
     by : (a : Outcome) → appended e xs page h w k .answer ≡ a
-        → OthersKept (page .0) xs (opened a (afterWrites e pieces (appended e xs page h w k .writer) (appended e xs page h w k .left) xs) xs)
+        → OthersKept (page .0) xs (goOn a (afterWrites e pieces (openedOn xs (appended e xs page h w k))) xs)
     by (outcome.Refused why) a = kept-none (page .0) xs
-    by outcome.Done a = writes-kept e page pieces (appended e xs page h w k .writer) (appended e xs page h w k .left) xs (append-page e xs page h w k a)
+    by outcome.Done a = writes-kept e page pieces (openedOn xs (appended e xs page h w k)) (appended-page e xs page h w k a)
 
 -- the same after any episodes
 pub history-elsewhere : (e : ℕ) (page : PageID) (h : ℕ) (ts : List Episode) (xs : List ℕ) → OthersKept (page .0) xs (history e xs page h ts)
-unfolding history
-history-elsewhere e page h [] xs = kept-none (page .0) xs
-history-elsewhere e page h (t ∷ ts) xs =
-    let ys = added e xs page h (t .writer) (t .stores) (t .pieces) in
-    kept-then (page .0) xs ys (history e ys page h ts) (cut-elsewhere e xs page h (t .writer) (t .stores) (t .pieces)) (history-elsewhere e page h ts ys)
+history-elsewhere e page h ts xs =
+    leftAfter-keeps (episodeLeaves e page h) (OthersKept (page .0) xs)
+    (λ ys t kept. kept-then (page .0) xs ys (episodeLeaves e page h ys t) kept (cut-elsewhere e ys page h (t .writer) (t .stores) (t .pieces)))
+    xs ts (kept-none (page .0) xs)

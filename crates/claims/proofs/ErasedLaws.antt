@@ -4,34 +4,37 @@ use mathlib.Core.Path.{_≡_, refl, sym, ap, subst, _∙_}
 use mathlib.Core.Bool.{Bool, true, false, cond}
 use mathlib.Core.List.{List, [], _∷_}
 use mathlib.Core.Logic.{⊎-elim}
-use Prim.Native.Nat.{ℕ, _-_, _/_, _≤_, _<_}
+use Prim.Native.Nat.{ℕ, _-_, _≤_, _<_}
 use native.Mathlib.Omega.{arith}
 use lib.Dec.{eqb, leb}
 use lib.ListN.{length, take}
 use lib.Seq.{take-all}
-use borrow.Author.Tests.{ltb-true, le-leb, lt-leb}
+use borrow.Author.Tests.{le-leb, lt-leb}
 use Rattle.types.specs.Build.{pageSize}
 use Rattle.types.specs.declared.page_id.PageID.{PageID}
 use Rattle.types.specs.declared.refusal.Verdict.{Verdict}
 use Rattle.types.specs.declared.refusal.Verdict.the-variants as verdict
+use Rattle.types.proofs.HistoryLaws.{toldByEach-none, toldByEach-more}
 use Rattle.types.proofs.TestLaws.{le-or-lt}
-use Rattle.flash.specs.Geometry.{hasPage, pageStart, pageOf}
+use Rattle.flash.specs.Geometry.{pageStart, pageOf}
 use Rattle.flash.specs.Operations.{Op, applied}
-use Rattle.flash.proofs.GeometryLaws.{page-inside, length-page}
+use Rattle.flash.proofs.GeometryLaws.{length-page}
 use Rattle.flash.proofs.PageLaws.{page-applied}
+use Rattle.writer.specs.Calls.{World, AddCall, writes, commits, heads, dutyOf, dutyIn, leavesIn, openedOn}
 use Rattle.writer.specs.Commits.{nextChunk}
-use Rattle.writer.specs.Duties.{Duty, handsBack, leaves}
+use Rattle.writer.specs.Duties.{Duty, handsBack, makes}
 use Rattle.writer.specs.Openings.{appended}
-use Rattle.writer.specs.Outcomes.{ended, endedFlash, endedOps}
 use Rattle.writer.specs.States.{inRange}
 use Rattle.types.specs.declared.answers.Outcome.the-variants.{Done}
 use Rattle.writer.specs.declared.page_writer.PageWriter.{PageWriter}
-use Rattle.writer.proofs.CheckLaws.{Passed, writer-passed, heading-passed, sound}
+use Rattle.writer.proofs.CheckLaws.{WriterChecked, writer-checked, heading-checked, range-known}
 use Rattle.writer.proofs.CleanLaws.{Clean, append-clean, write-clean, commit-clean, heading-clean}
+use Rattle.writer.proofs.OutcomeLaws.{checkedAs, by-check}
 use Rattle.writer.proofs.RangeLaws.{write-range, commit-range, heading-range, append-range}
 use Rattle.writer.proofs.StoreLaws.{lands-take}
-use Rattle.claims.specs.Sequences.{AddCall, writes, commits, heads, dutyOf, callsMake, LandsBy, AllLand}
-use Rattle.claims.proofs.CallLaws.{append-page, written-page}
+use Rattle.claims.specs.Sequences.{makingIn, makings, LandsBy, AllLand}
+use Rattle.writer.proofs.OpenedLaws.{appended-page}
+use Rattle.claims.proofs.CallLaws.{inWorld, leftBehind, written-page}
 
 -- ---- one call
 
@@ -50,22 +53,19 @@ call-range e commits xs w r = commit-range w r
 call-range e (heads magic header) xs w r = heading-range w ∙ r
 
 -- a call that no check refuses has a whole page
-call-whole : (e : ℕ) (call : AddCall) (xs : List ℕ) (w : PageWriter) → dutyOf e call xs w .verdict ≡ verdict.Fine → length (pageOf (w .page .0) xs) ≡ pageSize
-call-whole e call xs w v = there (passed call v .place)
+call-whole : (e : ℕ) (call : AddCall) (xs : List ℕ) (w : PageWriter) → dutyOf e call xs w .check ≡ verdict.Fine → length (pageOf (w .page .0) xs) ≡ pageSize
+call-whole e call xs w v = length-page (pageStart (w .page .0)) xs (checked call v .flash .whole)
   where
-    passed : (call : AddCall) → dutyOf e call xs w .verdict ≡ verdict.Fine → Passed (length xs) w
-    passed (writes bytes) v = writer-passed (length xs) w v
-    passed commits v = writer-passed (length xs) w v
-    passed (heads magic header) v = heading-passed (length xs) w (length header) v .0
-
-    there : hasPage (length xs) (w .page .0) ≡ true → length (pageOf (w .page .0) xs) ≡ pageSize
-    there t = length-page (pageStart (w .page .0)) xs (page-inside (length xs) (w .page .0) (ltb-true (w .page .0) (length xs / 4096) t))
+    checked : (call : AddCall) → dutyOf e call xs w .check ≡ verdict.Fine → WriterChecked (length xs) w
+    checked (writes bytes) v = writer-checked (length xs) w v
+    checked commits v = writer-checked (length xs) w v
+    checked (heads magic header) v = heading-checked (length xs) w (length header) v .writer
 
 -- what a call that no check refuses owes lies where it may, and leaves a clean page
-call-clean : (e : ℕ) (call : AddCall) (xs : List ℕ) (w : PageWriter) (p : List ℕ) → inRange w ≡ true → length p ≡ pageSize → Clean e w p → dutyOf e call xs w .verdict ≡ verdict.Fine
+call-clean : (e : ℕ) (call : AddCall) (xs : List ℕ) (w : PageWriter) (p : List ℕ) → inRange w ≡ true → length p ≡ pageSize → Clean e w p → dutyOf e call xs w .check ≡ verdict.Fine
     → LandsBy e call (dutyOf e call xs w .ops) p × Clean e (dutyOf e call xs w .next) (applied 0 (dutyOf e call xs w .ops) p)
-call-clean e (writes bytes) xs w p r whole c v = write-clean e w bytes p (sound w r) whole c
-call-clean e commits xs w p r whole c v = commit-clean e w p (sound w r) whole c
+call-clean e (writes bytes) xs w p r whole c v = write-clean e w bytes p (range-known w r) whole c
+call-clean e commits xs w p r whole c v = commit-clean e w p (range-known w r) whole c
 call-clean e (heads magic header) xs w p r whole c v = (tt, heading-clean (length xs) e w magic header p v c)
 
 -- so do the first ones, which a cut leaves, and none at all
@@ -82,72 +82,76 @@ call-none e (heads magic header) p = tt
 -- ---- all of them
 
 -- with no store left none is made
-none-land : (e : ℕ) (calls : List AddCall) (w : PageWriter) (left : ℕ) (xs : List ℕ) → left ≡ 0 → AllLand e (callsMake e calls w left xs)
-unfolding callsMake
-none-land e [] w left xs z = tt
-none-land e (call ∷ calls) w left xs z =
-    let d = dutyOf e call xs w in (
-      subst (λ (l : List Op). LandsBy e call l (pageOf (w .page .0) xs)) (sym (makes-none (d .ops) left z (d .verdict))) (call-none e call (pageOf (w .page .0) xs)),
-      none-land e calls (handsBack d w left .writer) (handsBack d w left .left) (leaves d w left xs) (left-none (d .ops) (d .next) w left z (d .verdict)),
+none-land : (e : ℕ) (calls : List AddCall) (x : World) → x .left ≡ 0 → AllLand e (makings e x calls)
+none-land e [] x z = rw (toldByEach-none (leavesIn e) (makingIn e) x) tt
+none-land e (call ∷ calls) x z =
+    let page = pageOf (x .writer .page .0) (x .flash) in
+    rw (toldByEach-more (leavesIn e) (makingIn e) x call calls) (
+      subst (λ (l : List Op). LandsBy e call l page) (sym (makes-none (dutyIn e x call) (x .left) z)) (call-none e call page),
+      none-land e calls (leavesIn e x call) (left-none (dutyIn e x call) (x .writer) (x .left) z),
     )
   where
-    makes-none : (ops : List Op) (left : ℕ) → left ≡ 0 → (v : Verdict) → endedOps v ops left ≡ []
-    makes-none ops left z (verdict.Refused why) = refl
-    makes-none ops left z verdict.Fine = ap (λ (n : ℕ). take n ops) z
+    makes-none : (d : Duty) (left : ℕ) → left ≡ 0 → makes d left ≡ []
+    makes-none d left z = by-check (λ (c : Duty). makes c left ≡ []) d (λ why. refl) (ap (λ (n : ℕ). take n (d .ops)) z)
 
-    left-none : (ops : List Op) (next w : PageWriter) (left : ℕ) → left ≡ 0 → (v : Verdict) → ended v ops next w left .left ≡ 0
-    left-none ops next w left z (verdict.Refused why) = z
-    left-none ops next w left z verdict.Fine = omega arith
+    left-none : (d : Duty) (w : PageWriter) (left : ℕ) → left ≡ 0 → handsBack d w left .left ≡ 0
+    left-none d w left z = by-check (λ (c : Duty). handsBack c w left .left ≡ 0) d (λ why. z) (omega arith)
 
 -- a call, and those after it by what is known of its writer and its page
-module _ (e : ℕ) (call : AddCall) (calls : List AddCall) (w : PageWriter) (left : ℕ) (xs : List ℕ) (r : inRange w ≡ true) (c : Clean e w (pageOf (w .page .0) xs))
-    (further : (v : PageWriter) (n : ℕ) (ys : List ℕ) → inRange v ≡ true → Clean e v (pageOf (v .page .0) ys) → AllLand e (callsMake e calls v n ys)) where
+module _ (e : ℕ) (call : AddCall) (calls : List AddCall) (x : World) (r : inRange (x .writer) ≡ true) (c : Clean e (x .writer) (pageOf (x .writer .page .0) (x .flash)))
+    (further : (y : World) → inRange (y .writer) ≡ true → Clean e (y .writer) (pageOf (y .writer .page .0) (y .flash)) → AllLand e (makings e y calls)) where
+  abbrev w : PageWriter
+  w = x .writer
+
+  abbrev left : ℕ
+  left = x .left
+
   abbrev duty : Duty
-  duty = dutyOf e call xs w
+  duty = dutyIn e x call
 
   abbrev ops : List Op
   ops = duty .ops
 
   abbrev page : List ℕ
-  page = pageOf (w .page .0) xs
+  page = pageOf (w .page .0) (x .flash)
 
   abbrev ys : List ℕ
-  ys = applied (pageStart (w .page .0)) (take left ops) xs
+  ys = applied (pageStart (w .page .0)) (take left ops) (x .flash)
 
   abbrev Later : Bool → Type 0
-  Later t = AllLand e (callsMake e calls (cond t (duty .next) w) (left - length ops) ys)
+  Later t = AllLand e (makings e (inWorld ys (cond t (duty .next) w) (left - length ops)) calls)
 
   next-page : pageOf (duty .next .page .0) ys ≡ applied 0 (take left ops) page
-  next-page = ap (λ (p : PageID). pageOf (p .0) ys) (call-page e call xs w) ∙ page-applied (pageStart (w .page .0)) (take left ops) xs
+  next-page = ap (λ (p : PageID). pageOf (p .0) ys) (call-page e call (x .flash) w) ∙ page-applied (pageStart (w .page .0)) (take left ops) (x .flash)
 
-  next-clean : duty .verdict ≡ verdict.Fine → length ops ≤ left → Clean e (duty .next) (pageOf (duty .next .page .0) ys)
+  next-clean : duty .check ≡ verdict.Fine → length ops ≤ left → Clean e (duty .next) (pageOf (duty .next .page .0) ys)
   next-clean v all =
       subst (λ (p : List ℕ). Clean e (duty .next) p) (sym (next-page ∙ ap (λ (l : List Op). applied 0 l page) (take-all left ops all)))
-      (call-clean e call xs w page r (call-whole e call xs w v) c v .1)
+      (call-clean e call (x .flash) w page r (call-whole e call (x .flash) w v) c v .1)
 
   -- all are made, and the page is clean; or the call is cut, and none is left
-  later-land : duty .verdict ≡ verdict.Fine → Later (leb (length ops) left)
+  later-land : duty .check ≡ verdict.Fine → Later (leb (length ops) left)
   later-land v =
       ⊎-elim
-      (λ (all : length ops ≤ left). subst Later (sym (le-leb (length ops) left all)) (further (duty .next) (left - length ops) ys (call-range e call xs w r) (next-clean v all)))
-      (λ (short : left < length ops). subst Later (sym (lt-leb (length ops) left short)) (none-land e calls w (left - length ops) ys (omega arith)))
+      (λ (all : length ops ≤ left).
+      subst Later (sym (le-leb (length ops) left all)) (further (inWorld ys (duty .next) (left - length ops)) (call-range e call (x .flash) w r) (next-clean v all)))
+      (λ (short : left < length ops). subst Later (sym (lt-leb (length ops) left short)) (none-land e calls (inWorld ys w (left - length ops)) (omega arith)))
       (le-or-lt (length ops) left)
 
-  call-lands : (v : Verdict) → duty .verdict ≡ v
-      → LandsBy e call (endedOps v ops left) page × AllLand e (callsMake e calls (ended v ops (duty .next) w left .writer) (ended v ops (duty .next) w left .left) (endedFlash v ops w left xs))
-  call-lands (verdict.Refused why) q = (call-none e call page, further w left xs r c)
-  call-lands verdict.Fine q = (call-take e call left ops page (call-clean e call xs w page r (call-whole e call xs w q) c q .0), later-land q)
+  call-lands : (v : Verdict) → duty .check ≡ v → LandsBy e call (makes (checkedAs duty v) left) page × AllLand e (makings e (leftBehind (checkedAs duty v) x) calls)
+  call-lands (verdict.Refused why) q = (call-none e call page, further x r c)
+  call-lands verdict.Fine q = (call-take e call left ops page (call-clean e call (x .flash) w page r (call-whole e call (x .flash) w q) c q .0), later-land q)
 
-all-land : (e : ℕ) (calls : List AddCall) (w : PageWriter) (left : ℕ) (xs : List ℕ) → inRange w ≡ true → Clean e w (pageOf (w .page .0) xs) → AllLand e (callsMake e calls w left xs)
-unfolding callsMake
-all-land e [] w left xs r c = tt
-all-land e (call ∷ calls) w left xs r c = call-lands e call calls w left xs r c (λ v n ys. all-land e calls v n ys) (dutyOf e call xs w .verdict) refl
+all-land : (e : ℕ) (calls : List AddCall) (x : World) → inRange (x .writer) ≡ true → Clean e (x .writer) (pageOf (x .writer .page .0) (x .flash)) → AllLand e (makings e x calls)
+all-land e [] x r c = rw (toldByEach-none (leavesIn e) (makingIn e) x) tt
+all-land e (call ∷ calls) x r c =
+    rw (toldByEach-more (leavesIn e) (makingIn e) x call calls) (call-lands e call calls x r c (λ y. all-land e calls y) (dutyIn e x call .check) refl)
 
 -- WRITES ON ERASED: after a reopening, whatever the calls, with any number of stores allowed in all, each store that write or commit
 -- makes lies within the page, on bytes that read as erased just before it
 pub writes-on-erased : (e : ℕ) (xs : List ℕ) (page : PageID) (h : ℕ) (w : PageWriter) (k : ℕ) (calls : List AddCall) → appended e xs page h w k .answer ≡ Done
-    → AllLand e (callsMake e calls (appended e xs page h w k .writer) (appended e xs page h w k .left) xs)
+    → AllLand e (makings e (openedOn xs (appended e xs page h w k)) calls)
 writes-on-erased e xs page h w k calls a =
     let v = appended e xs page h w k .writer in
-    all-land e calls v (appended e xs page h w k .left) xs (append-range e xs page h w k a)
-    (subst (λ (p : PageID). Clean e v (pageOf (p .0) xs)) (sym (append-page e xs page h w k a)) (append-clean e xs page h w k a))
+    all-land e calls (openedOn xs (appended e xs page h w k)) (append-range e xs page h w k a)
+    (subst (λ (p : PageID). Clean e v (pageOf (p .0) xs)) (sym (appended-page e xs page h w k a)) (append-clean e xs page h w k a))

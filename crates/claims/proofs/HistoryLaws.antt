@@ -1,7 +1,7 @@
 -- Any history of reopenings, additions and cuts: what a page holds is the chunks whose last store was made. Assumes nothing.
 use mathlib.Core.Path.{_≡_, refl, sym, ap, subst, _∙_}
 use mathlib.Core.Bool.{Bool, true, false, cond, not, _&&_}
-use mathlib.Core.List.{List, [], _∷_, _++_, append-assoc, append-nil}
+use mathlib.Core.List.{List, [], _∷_, _++_, flatten, append-assoc, append-nil}
 use mathlib.Core.Logic.{⊎-elim}
 use Prim.Native.Nat.{ℕ, _+_, _≤_, _<_}
 use native.Mathlib.Omega.{arith}
@@ -11,6 +11,7 @@ use lib.Seq.{take-nil}
 use borrow.Author.Tests.{eq-eqb, ne-eqb, le-leb, lt-leb}
 use Rattle.types.specs.Bytes.{word}
 use Rattle.types.specs.declared.page_id.PageID.{PageID}
+use Rattle.types.proofs.HistoryLaws.{leftAfter-none, leftAfter-more, toldByEach-none, toldByEach-more}
 use Rattle.types.proofs.TestLaws.{eq-or-ne, le-or-lt}
 use Rattle.flash.specs.Geometry.{flashFine, hasPage, pageOf}
 use Rattle.flash.specs.Operations.{Op, applied}
@@ -19,10 +20,10 @@ use Rattle.page.specs.Chunks.{chunkMagic, nextOffset}
 use Rattle.page.specs.Headers.{headerOf}
 use Rattle.writer.specs.Openings.{appended, resumeAt}
 use Rattle.writer.specs.States.{fresh}
-use Rattle.writer.specs.declared.answers.Opened.{Opened}
+use Rattle.writer.specs.declared.answers.Ended.{Ended}
 use Rattle.writer.specs.declared.page_writer.PageWriter.{PageWriter}
 use Rattle.claims.specs.Additions.{addition, additionOps, added, newPayload, storeCount, addedWhole, addedPayload}
-use Rattle.claims.specs.Histories.{Episode, AllPieces, history, keptPayloads}
+use Rattle.claims.specs.Histories.{Episode, AllPieces, episodeLeaves, episodeKeeps, history, keptPayloads}
 use Rattle.claims.specs.Pages.{AllBytes, Good, payloads}
 use Rattle.claims.proofs.AdditionLaws.{addition-empty}
 use Rattle.claims.proofs.CutLaws.{Shape, append-as, added-page}
@@ -50,7 +51,7 @@ module _ (e : ℕ) (unmarked : word (blank e 2) ≡ chunkMagic → ⊥) (page : 
       let before = pageOf (page .0) xs in
       let after = pageOf (page .0) (added e xs page h w k ps) in
       let shape : Shape (length xs) (page .0) h = record { flash = fine; header = good .length-fine; there = there } in
-      let is-writer : appended e xs page h w k .writer ≡ fresh false page h (resumeAt e before o) = ap (λ (r : Opened). r .writer) (append-as e xs page h w k o shape (good .ends)) in
+      let is-writer : appended e xs page h w k .writer ≡ fresh false page h (resumeAt e before o) = ap (λ (r : Ended). r .writer) (append-as e xs page h w k o shape (good .ends)) in
       ⊎-elim
       (λ (z : length new ≡ 0).
       let none : addition (fresh false page h (resumeAt e before o)) ps ≡ [] = ap (λ (v : PageWriter). addition v ps) (sym is-writer) ∙ nothing new z in
@@ -91,8 +92,10 @@ module _ (e : ℕ) (unmarked : word (blank e 2) ≡ chunkMagic → ⊥) (page : 
   -- THE HISTORY: no episode loses an older chunk, and those added whole are there in their order
   pub history-holds : (ts : List Episode) (xs : List ℕ) (o : ℕ) → flashFine (length xs) ≡ true → hasPage (length xs) (page .0) ≡ true → Good magic (page .0) h o (pageOf (page .0) xs) → AllPieces ts
       → Holds magic (page .0) h (pageOf (page .0) xs) (pageOf (page .0) (history e xs page h ts)) (keptPayloads e xs page h ts)
-  unfolding history keptPayloads
-  history-holds [] xs o fine there good bytes = record { o = o; good = good; header = refl; are = sym (append-nil (payloads (pageOf (page .0) xs) h)) }
+  unfolding flatten
+  history-holds [] xs o fine there good bytes =
+      rw (leftAfter-none (episodeLeaves e page h) xs, toldByEach-none (episodeLeaves e page h) (episodeKeeps e page h) xs)
+      (record { o = o; good = good; header = refl; are = sym (append-nil (payloads (pageOf (page .0) xs) h)) })
   history-holds (t ∷ ts) xs o fine there good bytes =
       let k = t .stores in
       let w = t .writer in
@@ -101,7 +104,8 @@ module _ (e : ℕ) (unmarked : word (blank e 2) ≡ chunkMagic → ⊥) (page : 
       let one = addition-holds e unmarked page magic h (t .writer) xs (t .stores) (t .pieces) o fine there good (bytes .0) in
       let l : length ys ≡ length xs = cut-elsewhere e xs page h w k ps .long in
       let rest = history-holds ts ys (one .o) (ap flashFine l ∙ fine) (ap (λ (n : ℕ). hasPage n (page .0)) l ∙ there) (one .good) (bytes .1) in
-      record {
+      rw (leftAfter-more (episodeLeaves e page h) xs t ts, toldByEach-more (episodeLeaves e page h) (episodeKeeps e page h) xs t ts)
+      (record {
         o = rest .o;
         good = rest .good;
         header = rest .header ∙ one .header;
@@ -109,4 +113,4 @@ module _ (e : ℕ) (unmarked : word (blank e 2) ≡ chunkMagic → ⊥) (page : 
             rest .are
             ∙ ap (λ (x : List (List ℕ)). x ++ keptPayloads e ys page h ts) (one .are)
             ∙ append-assoc (payloads (pageOf (page .0) xs) h) _ (keptPayloads e ys page h ts);
-      }
+      })

@@ -7,38 +7,42 @@ use mathlib.Core.Logic.{inl, inr}
 use Prim.Native.Nat.{ℕ, zero, suc, _+_, _≤_}
 use lib.Dec.{eqb}
 use lib.ListN.{length, take, drop}
+use Rattle.types.specs.Histories.{leftAfter}
+use Rattle.types.proofs.HistoryLaws.{leftAfter-keeps}
 use Rattle.types.specs.Build.{pageHeaderSize}
 use Rattle.types.specs.Refusals.{numberOf}
 use Rattle.types.specs.declared.page_id.PageID.{PageID}
 use Rattle.types.specs.declared.refusal.Refusal.{Refusal}
 use Rattle.types.specs.declared.refusal.Refusal.the-variants as row
-use Rattle.types.specs.declared.refusal.Verdict.{Verdict}
-use Rattle.types.specs.declared.refusal.Verdict.the-variants.{Fine, Refused}
-use Rattle.flash.specs.Geometry.{flashFine, pageOf}
+use Rattle.types.specs.declared.refusal.Verdict.the-variants.{Refused}
+use Rattle.flash.specs.Geometry.{pageOf}
 use Rattle.page.specs.Chunks.{nextOffset}
-use Rattle.page.specs.Headers.{headerOf, pageHeaderFine}
+use Rattle.page.specs.Headers.{pageHeaderFine}
 use Rattle.page.specs.Walks.{Chunk, walkFrom}
 use Rattle.types.specs.Answers.{outcomeTold, pageOfTold}
 use Rattle.reader.specs.Answers.{countTold, endTestTold, dehydrationTold}
-use Rattle.reader.specs.Calls.{outcomeAfter, filled, dehydrationAfter}
 use Rattle.reader.specs.Calls.{readHeader, readHeaderBytes, openPage, openBytes, read, readBytes, skip, isAtEof, dehydrate, rehydrateFrom, pageId}
-use Rattle.reader.specs.Checks.{inRange, asking, pageCheck, stateCheck, openCheck, readerCheck}
+use Rattle.reader.specs.Checks.{inRange}
 use Rattle.reader.specs.Finds.{payloadOf}
-use Rattle.reader.specs.States.{stored, restored}
+use Rattle.reader.specs.States.{restored}
 use Rattle.reader.specs.declared.answers.Count.{Count}
 use Rattle.reader.specs.declared.answers.Count.the-variants as count
+use Rattle.reader.specs.declared.answers.Dehydration.{Dehydration}
 use Rattle.reader.specs.declared.answers.Dehydration.the-variants as dehydration
+use Rattle.reader.specs.declared.dehydrated.DehydratedPageReader.{DehydratedPageReader}
 use Rattle.reader.specs.declared.answers.EndTested.{EndTested}
 use Rattle.types.specs.declared.answers.Outcome.{Outcome}
 use Rattle.types.specs.declared.answers.Outcome.the-variants as outcome
 use Rattle.reader.specs.declared.answers.Passage.{Passage}
 use Rattle.reader.specs.declared.page_reader.PageReader.{PageReader}
 use Rattle.reader.proofs.AgainLaws.{open-reader-kept, rehydrate-kept}
+use Rattle.reader.proofs.CallLaws.{readerCheck-out, readHeader-done, dehydrate-state}
+use Rattle.reader.proofs.OpenLaws.{read-header-kept, open-kept, read-header-filled, open-filled}
 use Rattle.reader.proofs.RangeLaws.{new-out}
 use Rattle.reader.proofs.ReadLaws.{read-refused, skip-refused, eof-refused}
 use Rattle.reader.proofs.StandingLaws.{Stands, HandedBy, read-stands, read-hands, eof-stands, skip-stands, open-stands, rehydrate-restores}
 use Rattle.claims.specs.Again.{ReaderCall, readsHeader, opens, reads, skips, asksForItsEnd, dehydrates, rehydrates, asksItsPage, readerLeft}
-use Rattle.claims.specs.ReaderHistories.{Origin, never, openedAt, Kept, Held, atFirst, Asked, slotFilled, slotsBy, afterCall, afterCalls, Among, ReadPuts, HeaderPuts, Puts}
+use Rattle.claims.specs.ReaderHistories.{Origin, never, openedAt, Kept, Held, atFirst, Asked, slotFilled, slotsBy, afterCall, Among, ReadPuts, HeaderPuts, Puts}
 
 abbrev pub Known : List ℕ → Origin → PageReader → Type 0
 Known flash never r = inRange r ≡ false
@@ -52,31 +56,22 @@ pub record HeldKnown (flash : List ℕ) (k : Held) : Type 0 where
 
 -- ---- one call on the reader at hand
 
--- a reader that is out of range is refused before any work
-out-refused : (n : ℕ) (r : PageReader) → inRange r ≡ false → (w : Refusal) × (readerCheck n r ≡ Refused w)
-unfolding readerCheck
-out-refused n r e = by (flashFine n)
-  where
-    by : (t : Bool) → (w : Refusal) × (asking t row.BadFlash (asking (inRange r) row.BadState (pageCheck n (r .page))) ≡ Refused w)
-    by false = (row.BadFlash, refl)
-    by true = (row.BadState, ap (λ (b : Bool). asking b row.BadState (pageCheck n (r .page))) e)
-
 module _ (flash : List ℕ) (r : PageReader) where
   read-known : (from : Origin) → Known flash from r → (buffer : List ℕ) → Known flash from (read r flash (length buffer) .reader)
   read-known never k buffer =
-      let w = out-refused (length flash) r k in
+      let w = readerCheck-out (length flash) r k in
       subst (λ (p : Passage). inRange (p .reader) ≡ false) (read-refused r flash (w .0) (w .1) buffer .0) k
   read-known (openedAt magic page h) k buffer = (k .0, read-stands flash page (12 + h) r (k .1) (length buffer))
 
   skip-known : (from : Origin) → Known flash from r → (n : ℕ) → Known flash from (skip r flash n .reader)
   skip-known never k n =
-      let w = out-refused (length flash) r k in
+      let w = readerCheck-out (length flash) r k in
       subst (λ (p : Passage). inRange (p .reader) ≡ false) (skip-refused r flash (w .0) (w .1) n) k
   skip-known (openedAt magic page h) k n = (k .0, skip-stands flash page (12 + h) r (k .1) n)
 
   eof-known : (from : Origin) → Known flash from r → Known flash from (isAtEof r flash .reader)
   eof-known never k =
-      let w = out-refused (length flash) r k in
+      let w = readerCheck-out (length flash) r k in
       subst (λ (p : EndTested). inRange (p .reader) ≡ false) (eof-refused r flash (w .0) (w .1)) k
   eof-known (openedAt magic page h) k = (k .0, eof-stands flash page (12 + h) r (k .1))
 
@@ -163,16 +158,16 @@ module _ (flash : List ℕ) (k : Held) (known : HeldKnown flash k) where
   InSlot x = Known flash (x .origin) (restored (x .state))
 
   slot-filled : (slot other : ℕ) → InSlot (slotFilled k slot (dehydrate (k .reader)) other)
-  unfolding dehydrate
-  slot-filled slot other = by (stateCheck (k .reader))
+  slot-filled slot other = by (dehydrate (k .reader)) refl
     where
-      in-it : (t : Bool) → InSlot (cond t (record { state = stored (k .reader); origin = k .origin }) (k .slots other))
-      in-it true = known .reader
-      in-it false = known .slots other
+      in-it : (d : DehydratedPageReader) → InSlot (record { state = d; origin = k .origin }) → (t : Bool) → InSlot (cond t (record { state = d; origin = k .origin }) (k .slots other))
+      in-it d own true = own
+      in-it d own false = known .slots other
 
-      by : (v : Verdict) → InSlot (slotFilled k slot (dehydrationAfter v (dehydration.State (stored (k .reader)))) other)
-      by Fine = in-it (eqb slot other)
-      by (Refused w) = known .slots other
+      by : (a : Dehydration) → dehydrate (k .reader) ≡ a → InSlot (slotFilled k slot a other)
+      by (dehydration.State d) e =
+          in-it d (subst (λ (x : DehydratedPageReader). InSlot (record { state = x; origin = k .origin })) (dehydrate-state (k .reader) d e) (known .reader)) (eqb slot other)
+      by (dehydration.Refused w) e = known .slots other
 
   slots-after : (call : ReaderCall) (other : ℕ) → InSlot (slotsBy k call other)
   slots-after (readsHeader magic page) other = known .slots other
@@ -190,10 +185,8 @@ module _ (flash : List ℕ) (k : Held) (known : HeldKnown flash k) where
 
 -- ---- the whole history
 
-pub calls-known : (flash : List ℕ) (before : List Asked) (k : Held) → HeldKnown flash k → HeldKnown flash (afterCalls flash k before)
-unfolding afterCalls
-calls-known flash [] k known = known
-calls-known flash (a ∷ before) k known = calls-known flash before (afterCall flash k a) (call-known flash k known a)
+pub calls-known : (flash : List ℕ) (before : List Asked) (k : Held) → HeldKnown flash k → HeldKnown flash (leftAfter (afterCall flash) k before)
+calls-known flash before k known = leftAfter-keeps (afterCall flash) (HeldKnown flash) (λ j a held. call-known flash j held a) k before known
 
 pub first-known : (flash : List ℕ) → HeldKnown flash atFirst
 first-known flash = record { reader = new-out; slots = λ slot. new-out }
@@ -232,7 +225,7 @@ handed-puts flash magic page h fine lent after (count.Bytes (suc n)) k =
 read-puts : (flash : List ℕ) (from : Origin) (r : PageReader) (buffer : List ℕ) → Known flash from r
     → ReadPuts flash from buffer (readBytes r flash buffer) (read r flash (length buffer) .answer)
 read-puts flash never r buffer k =
-    let w = out-refused (length flash) r k in
+    let w = readerCheck-out (length flash) r k in
     let so = read-refused r flash (w .0) (w .1) buffer in
     subst (λ (p : Passage). ReadPuts flash never buffer (readBytes r flash buffer) (p .answer)) (so .0) (sym (so .1))
 read-puts flash (openedAt magic page h) r buffer k =
@@ -242,30 +235,19 @@ read-puts flash (openedAt magic page h) r buffer k =
 
 header-puts : (flash : List ℕ) (magic : ℕ) (page : PageID) (lent : List ℕ)
     → HeaderPuts flash magic page lent (readHeaderBytes flash magic page lent) (readHeader flash magic page (length lent))
-unfolding readHeader readHeaderBytes
-header-puts flash magic page lent = by (openCheck (length flash) (length lent) page) (pageHeaderFine bytes magic (page .0) (length lent)) refl
+header-puts flash magic page lent = by (readHeader flash magic page (length lent)) refl
   where
-    bytes : List ℕ
-    bytes = pageOf (page .0) flash
-
-    checked : Bool → Outcome
-    checked t = cond t outcome.Done (outcome.Refused row.Corrupted)
-
-    by : (v : Verdict) (t : Bool) → pageHeaderFine bytes magic (page .0) (length lent) ≡ t
-        → HeaderPuts flash magic page lent (filled (outcomeAfter v (checked t)) (headerOf bytes (length lent)) lent) (outcomeAfter v (checked t))
-    by (Refused w) t f = refl
-    by Fine true f = (refl, f)
-    by Fine false f = refl
+    by : (a : Outcome) → readHeader flash magic page (length lent) ≡ a → HeaderPuts flash magic page lent (readHeaderBytes flash magic page lent) a
+    by outcome.Done e = (sym (read-header-filled flash magic page lent e), readHeader-done flash magic page (length lent) e)
+    by (outcome.Refused w) e = sym (read-header-kept flash magic page lent w e)
 
 open-puts : (flash : List ℕ) (r : PageReader) (magic : ℕ) (page : PageID) (lent : List ℕ)
     → HeaderPuts flash magic page lent (openBytes r flash magic page lent) (openPage r flash magic page (length lent) .answer)
-unfolding openBytes
 open-puts flash r magic page lent = by (openPage r flash magic page (length lent) .answer) refl
   where
-    by : (a : Outcome) → openPage r flash magic page (length lent) .answer ≡ a
-        → HeaderPuts flash magic page lent (filled a (headerOf (pageOf (page .0) flash) (length lent)) lent) a
-    by outcome.Done e = (refl, open-stands r flash magic page (length lent) e .0)
-    by (outcome.Refused w) e = refl
+    by : (a : Outcome) → openPage r flash magic page (length lent) .answer ≡ a → HeaderPuts flash magic page lent (openBytes r flash magic page lent) a
+    by outcome.Done e = (sym (open-filled flash magic page lent r e), open-stands r flash magic page (length lent) e .0)
+    by (outcome.Refused w) e = sym (open-kept flash magic page lent w r e)
 
 pub call-puts : (flash : List ℕ) (k : Held) → HeldKnown flash k → (call : ReaderCall) (lent : List ℕ) → Puts flash k call lent
 call-puts flash k known (readsHeader magic page) lent = header-puts flash magic page lent

@@ -1,9 +1,7 @@
-pub mod AddingLaws
 pub mod AdditionLaws
-pub mod AnswerTableLaws
+pub mod AnswersHold
 pub mod AskedAgain
 pub mod CallLaws
-pub mod ClosingLaws
 pub mod CountMade
 pub mod CutLaws
 pub mod CutPage
@@ -11,7 +9,6 @@ pub mod CutSafe
 pub mod Elsewhere
 pub mod ErasedLaws
 pub mod GoodLaws
-pub mod GroupLaws
 pub mod HistoryLaws
 pub mod KnownLaws
 pub mod NeverUnchecked

@@ -6,6 +6,7 @@ use mathlib.Core.List.{List}
 use Prim.Native.Nat.{ℕ}
 use lib.Dec.{eqb}
 use borrow.Author.Tests.{ne-eqb}
+use Rattle.types.specs.Histories.{leftAfter}
 use Rattle.types.specs.declared.refusal.Refusal.{Refusal}
 use Rattle.reader.specs.Answers.{dehydrationTold}
 use Rattle.reader.specs.Calls.{dehydrate}
@@ -13,7 +14,7 @@ use Rattle.reader.specs.declared.answers.Dehydration.{Dehydration}
 use Rattle.reader.specs.declared.answers.Dehydration.the-variants as dehydration
 use Rattle.reader.specs.declared.page_reader.PageReader.{PageReader}
 use Rattle.claims.specs.Again.{Left, IsRefused, ReaderCall, readsHeader, opens, reads, skips, asksForItsEnd, dehydrates, rehydrates, asksItsPage, readerLeft}
-use Rattle.claims.specs.ReaderHistories.{Origin, Kept, Held, statesOf, atFirst, Asked, leftBy, originBy, slotFilled, slotsBy, afterCall, afterCalls, NoneUnchecked}
+use Rattle.claims.specs.ReaderHistories.{Origin, Kept, Held, statesOf, atFirst, Asked, leftBy, originBy, slotFilled, slotsBy, afterCall, NoneUnchecked}
 use Rattle.claims.proofs.AskedAgain.{kept}
 use Rattle.claims.proofs.KnownLaws.{calls-known, first-known, call-puts}
 
@@ -54,8 +55,8 @@ refused-keeps flash k a e =
 
 -- from a new reader and slots that hold new readers, after any calls at all: what one more call puts is covered, and a refused call
 -- puts nothing
-pub never-unchecked : (flash : List ℕ) (before : List Asked) (a : Asked) → NoneUnchecked flash (afterCalls flash atFirst before) a
+pub never-unchecked : (flash : List ℕ) (before : List Asked) (a : Asked) → NoneUnchecked flash (leftAfter (afterCall flash) atFirst before) a
 never-unchecked flash before a =
-    let k = afterCalls flash atFirst before in
+    let k = leftAfter (afterCall flash) atFirst before in
     let known = calls-known flash before atFirst (first-known flash) in
     record { puts = call-puts flash k known (a .call) (a .lent); refused = refused-keeps flash k a }

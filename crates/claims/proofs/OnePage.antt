@@ -1,4 +1,6 @@
 -- One outcome for every function of `page` that is open to callers: each line cites the function's own promise. Assumes nothing.
+use Rattle.page.proofs.checks.check_page.Reads.{Learnt as check-page}
+use Rattle.page.proofs.checks.check_open.Reads.{Learnt as check-open}
 use Rattle.page.proofs.chunk.align_up.Reads.{Learnt as align-up}
 use Rattle.page.proofs.chunk.chunk_header.Reads.{Learnt as chunk-header}
 use Rattle.page.proofs.chunk.chunk_at.Reads.{Learnt as chunk-at}
@@ -17,6 +19,12 @@ use Rattle.page.proofs.walk.Ending.number.Reads.{Learnt as Ending-number}
 use Rattle.page.proofs.walk.Ending.offset_or.Reads.{Learnt as Ending-offset-or}
 use Rattle.claims.specs.Outcomes.{OneOutcome}
 use Rattle.claims.proofs.OutcomeLaws.{one}
+
+pub one-check-page : OneOutcome check-page (λ r e. r)
+one-check-page k a r r′ e e′ p q = one p q
+
+pub one-check-open : OneOutcome check-open (λ r e. r)
+one-check-open k a r r′ e e′ p q = one p q
 
 pub one-align-up : OneOutcome align-up (λ r e. r)
 one-align-up k a r r′ e e′ p q = one p q

@@ -1,5 +1,5 @@
 -- One outcome for every function of `run` that is open to callers: each line cites the function's own promise. Assumes nothing.
-use Rattle.run.proofs.bound.past.Reads.{Learnt as past}
+use Rattle.run.proofs.bound.is_past.Reads.{Learnt as is-past}
 use Rattle.run.proofs.record.Head.number.Reads.{Learnt as Head-number}
 use Rattle.run.proofs.record.Record.key_in.Reads.{Learnt as Record-key-in}
 use Rattle.run.proofs.record.Record.value_in.Reads.{Learnt as Record-value-in}
@@ -11,8 +11,8 @@ use Rattle.run.proofs.search.Sought.place_or.Reads.{Learnt as Sought-place-or}
 use Rattle.claims.specs.Outcomes.{OneOutcome}
 use Rattle.claims.proofs.OutcomeLaws.{one}
 
-pub one-past : OneOutcome past (λ r e. r)
-one-past k a r r′ e e′ p q = one p q
+pub one-is-past : OneOutcome is-past (λ r e. r)
+one-is-past k a r r′ e e′ p q = one p q
 
 pub one-Head-number : OneOutcome Head-number (λ r e. r)
 one-Head-number k a r r′ e e′ p q = one p q

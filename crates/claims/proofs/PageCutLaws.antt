@@ -3,8 +3,7 @@ use mathlib.Core.Path.{_≡_, refl, sym, ap, _∙_}
 use mathlib.Core.Bool.{true}
 use mathlib.Core.List.{List, [], _∷_, _++_}
 use mathlib.Core.Logic.{_⊎_, inl, inr, ⊎-elim}
-use Prim.Native.Nat.{ℕ, zero, suc, _+_, _-_, _%_, _≤_, _<_}
-use native.Mathlib.Nat.{sub-zero, zero-sub, suc-sub-suc, le-of-suc-le-suc, not-suc-le-zero}
+use Prim.Native.Nat.{ℕ, _+_, _-_, _%_, _≤_, _<_}
 use native.Mathlib.Omega.{arith}
 use lib.ListN.{length, take, drop, length-append, length-drop}
 use lib.Seq.{take-all, take-take, take-append-le, take-at, drop-drop}
@@ -14,6 +13,7 @@ use Rattle.types.proofs.TestLaws.{le-or-lt}
 use Rattle.crc.specs.Published.{published}
 use Rattle.crc.specs.Register.{preset, updated, finished}
 use Rattle.crc.proofs.DividesLaws.{register-is-published}
+use Rattle.crc.proofs.SumLaws.{published-fits}
 use Rattle.flash.specs.Operations.{Op, store, made, applied}
 use Rattle.slices.specs.Patch.{patch, blank}
 use Rattle.flash.proofs.OperationLaws.{applied-append}
@@ -23,27 +23,12 @@ use Rattle.page.specs.Walks.{walkFrom, allErased}
 use Rattle.page.specs.declared.chunk.Step.the-variants as step
 use Rattle.page.specs.declared.walk.Ending.the-variants.{EndAt}
 use Rattle.page.proofs.ChunkLaws.{chunk-past, end-below}
-use Rattle.page.proofs.ErasedLaws.{erased-blank, chunk-blank}
+use Rattle.page.proofs.ErasedLaws.{erased-blank, take-blank, drop-blank, chunk-blank}
 use Rattle.page.proofs.LaidLaws.{walk-ended}
 use Rattle.page.proofs.OntoLaws.{walk-kept, walk-added}
 use Rattle.page.proofs.PutLaws.{length-chunkHeader, chunk-put, payload-put}
-use Rattle.page.proofs.SumLaws.{published-fits}
-use Rattle.claims.proofs.AddingLaws.{made-fit}
-use Rattle.claims.proofs.ClosingLaws.{Stored, before-kept, behind-take}
-
--- ---- erased bytes
-
-drop-blank : (e n k : ℕ) → drop k (blank e n) ≡ blank e (n - k)
-unfolding blank
-drop-blank e n zero = rw sub-zero
-drop-blank e zero (suc k) = rw zero-sub
-drop-blank e (suc n) (suc k) = drop-blank e n k ∙ rw suc-sub-suc
-
-take-blank : (e n k : ℕ) → k ≤ n → take k (blank e n) ≡ blank e k
-unfolding blank
-take-blank e n zero h = refl
-take-blank e zero (suc k) h = absurd (not-suc-le-zero h)
-take-blank e (suc n) (suc k) h = ap (λ (l : List ℕ). e ∷ l) (take-blank e n k (le-of-suc-le-suc h))
+use Rattle.writer.proofs.AddingLaws.{made-fit}
+use Rattle.writer.proofs.ClosingLaws.{Stored, before-kept, behind-take}
 
 swap : {A B : Type 0} → A ⊎ B → B ⊎ A
 swap c = ⊎-elim (λ a. inr a) (λ b. inl b) c

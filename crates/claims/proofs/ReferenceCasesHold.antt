@@ -3,16 +3,16 @@
 use mathlib.Core.Path.{_≡_, refl, ap, _∙_}
 use mathlib.Core.List.{List, [], _∷_, map}
 use Rattle.page.specs.WalkTable as walks
-use Rattle.page.proofs.WalkTableLaws.{walk-table}
+use Rattle.page.proofs.WalksHold.{walk-table}
 use Rattle.run.specs.RecordTable as records
-use Rattle.run.proofs.RecordTableLaws.{record-table}
+use Rattle.run.proofs.RecordsHold.{record-table}
 use Rattle.cursor.specs.ReferenceCases as merges
 use Rattle.cursor.proofs.ReferenceCasesHold as merge-claims
 use Rattle.alloc.specs.Rows as allocations
 use Rattle.alloc.proofs.RowsHold.{rows-hold}
 use Rattle.writer.specs.ReferenceCases as additions
 use Rattle.writer.proofs.ReferenceCasesHold as addition-claims
-use Rattle.claims.specs.ReferenceCases.{Case, addition, walk, allocation, merge, recordBytes, Outcome, added, walked, allocated, merged, says, outcomeOf, expected, referenceCases}
+use Rattle.claims.specs.ReferenceCases.{Case, addition, walk, allocation, merge, recordBytes, added, walked, allocated, merged, says, outcomeOf, expected, referenceCases}
 
 -- ---- lists that are the same
 

@@ -24,7 +24,7 @@ use Rattle.reader.specs.declared.answers.Count.the-variants as count
 use Rattle.reader.specs.declared.answers.Passage.{Passage}
 use Rattle.reader.specs.declared.page_reader.PageReader.{PageReader}
 use Rattle.reader.proofs.BufferLaws.{FullBehind, remaining, reads-remaining}
-use Rattle.reader.proofs.CheckLaws.{range-known, range-in, reader-known, reader-fine}
+use Rattle.reader.proofs.CheckLaws.{range-known, range-in, reader-checked, reader-fine}
 use Rattle.reader.proofs.PassedLaws.{SkippingBy, skip-passes}
 use Rattle.reader.proofs.RangeLaws.{skip-in-range}
 use Rattle.claims.specs.ReaderHistories.{Among}
@@ -62,7 +62,7 @@ refused-answer n m w h = ap (λ (t : Bool). cond t (count.Bytes n) (count.Refuse
 behind-fine : (flash : List ℕ) (r : PageReader) (n : ℕ) → readerCheck (length flash) r ≡ Fine → skip r flash n .reader .page ≡ r .page
     → readerCheck (length flash) (skip r flash n .reader) ≡ Fine
 behind-fine flash r n v same =
-    let known = reader-known (length flash) r v in
+    let known = reader-checked (length flash) r v in
     let s = skip r flash n .reader in
     let range = range-known s (skip-in-range r flash (range-in r (known .range)) n) in
     reader-fine (length flash) s (known .flash .fine) (subst (λ (p : PageID). p .0 < wholePages (length flash)) (sym same) (known .flash .has)) range

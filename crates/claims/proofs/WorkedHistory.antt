@@ -6,8 +6,10 @@ use Prim.Native.Nat.{ℕ}
 use native.Mathlib.Omega.{arith}
 use Rattle.types.specs.Build.{eraseValue, pageSize}
 use Rattle.types.specs.Bytes.{word, bytesOf}
+use Rattle.types.specs.Histories.{toldByEach}
 use Rattle.flash.specs.Geometry.{pageOf}
 use Rattle.slices.specs.Patch.{over, patch, blank}
+use Rattle.page.specs.Checks.{openCheck}
 use Rattle.page.specs.Chunks.{chunkHeader, chunkAt}
 use Rattle.page.specs.Headers.{pageHeader}
 use Rattle.page.specs.Walks.{walk, walkFrom, allErased}
@@ -15,7 +17,7 @@ use Rattle.reader.specs.Finds.{found, foundWith, joined}
 use Rattle.writer.specs.Commits.{chunkOps}
 use Rattle.writer.specs.Openings.{appended}
 use Rattle.writer.specs.States.{inRange, newWriter}
-use Rattle.writer.specs.Checks.{writerCheck, openCheck}
+use Rattle.writer.specs.Checks.{writerCheck}
 use Rattle.writer.specs.Writes.{groupOf, bufferOf, payloadOps, takingOps}
 use Rattle.claims.specs.Additions.{afterWrites, added, addition, additionOps}
 use Rattle.claims.specs.Histories.{Episode, AllPieces, history, keptPayloads}
@@ -34,7 +36,7 @@ all-pieces = (six-bytes, (six-bytes, tt))
 
 kept-there : payloads (pageOf 0 workedFlash) 0 ++ keptPayloads eraseValue workedFlash workedPage 0 episodes ≡ (5 ∷ []) ∷ (6 ∷ []) ∷ []
 unfolding word bytesOf over patch blank chunkHeader pageHeader chunkOfOne workedFlash chunkAt walk walkFrom allErased chunkOps appended
-    openCheck inRange writerCheck groupOf bufferOf payloadOps takingOps addition additionOps afterWrites added keptPayloads
+    openCheck inRange writerCheck groupOf bufferOf payloadOps takingOps addition additionOps afterWrites added toldByEach flatten
 kept-there = refl
 
 pub worked-history : found (history eraseValue workedFlash workedPage 0 episodes) workedMagic workedPage 0 ≡ finds ((5 ∷ []) ∷ (6 ∷ []) ∷ [])

@@ -11,6 +11,7 @@ use Rattle.types.specs.Bytes.{Bytes, word, bytesOf}
 use Rattle.crc.specs.Published.{bits, number, message, among, terms, generator, plus, divided, dividend, remainder, published}
 use Rattle.flash.specs.Geometry.{flashFine, hasPage, pageOf}
 use Rattle.slices.specs.Patch.{patch, blank}
+use Rattle.page.specs.Checks.{openCheck}
 use Rattle.page.specs.Chunks.{chunkHeader, chunkAt}
 use Rattle.page.specs.Headers.{headerOf, pageHeader, pageHeaderFine}
 use Rattle.page.specs.Walks.{walk, walkFrom, allErased}
@@ -18,7 +19,6 @@ use Rattle.reader.specs.Finds.{found, foundWith, joined}
 use Rattle.writer.specs.Commits.{chunkOps}
 use Rattle.writer.specs.Openings.{appended}
 use Rattle.writer.specs.States.{newWriter}
-use Rattle.writer.specs.Checks.{openCheck}
 use Rattle.writer.specs.Writes.{payloadOps, takingOps}
 use Rattle.claims.specs.Additions.{added, addition, additionOps, addedPayload}
 use Rattle.claims.specs.Pages.{AllBytes, Good, payloads, finds, handsOut, Opens}

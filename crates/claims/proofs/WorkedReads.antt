@@ -8,24 +8,26 @@ use Prim.Native.Nat.{ℕ}
 use native.Mathlib.Nat.{le-refl}
 use native.Mathlib.Omega.{arith}
 use lib.ListN.{length}
+use Rattle.types.specs.Histories.{leftAfter}
 use Rattle.types.specs.Bytes.{word, bytesOf}
 use Rattle.types.specs.declared.refusal.Verdict.the-variants.{Fine}
 use Rattle.crc.specs.Published as crc
 use Rattle.flash.specs.Geometry.{pageOf}
 use Rattle.slices.specs.Patch.{over, blank}
+use Rattle.page.specs.Checks.{openCheck}
 use Rattle.page.specs.Chunks.{chunkHeader, nextOffset, chunkAt, checkedAt}
 use Rattle.page.specs.Headers.{pageHeader, pageHeaderFine}
 use Rattle.page.specs.Walks.{Chunk, walk, walkFrom}
 use Rattle.page.proofs.LaidLaws.{All}
 use Rattle.reader.specs.Calls.{openPage, openBytes, read, readBytes, skip, dehydrate, rehydrateFrom}
-use Rattle.reader.specs.Checks.{openCheck, readerCheck}
+use Rattle.reader.specs.Checks.{readerCheck}
 use Rattle.reader.specs.Finds.{NotEmpty, reads}
 use Rattle.reader.specs.Moves.{moved, ready, restOf, skipBy, skipped}
 use Rattle.reader.specs.States.{newReader}
 use Rattle.reader.specs.declared.answers.Count.the-variants as count
 use Rattle.reader.specs.declared.page_reader.PageReader.{PageReader}
 use Rattle.claims.specs.Again.{readerLeft}
-use Rattle.claims.specs.ReaderHistories.{atFirst, Asked, leftBy, afterCall, afterCalls, Among, Covered, NoneUnchecked}
+use Rattle.claims.specs.ReaderHistories.{atFirst, Asked, leftBy, afterCall, Among, Covered, NoneUnchecked}
 use Rattle.claims.specs.Skips.{foundFrom, SkipIsRead}
 use Rattle.claims.specs.Worked.{workedMagic, workedPage, chunkOfOne}
 use Rattle.claims.specs.WorkedReads.{twoChunkFlash, emptyBetweenFlash, damagedFlash, openIt, readTwo, keepIt, bringItBack}
@@ -36,7 +38,7 @@ use Rattle.claims.proofs.SkipIsRead.{skip-is-read}
 -- after these calls a read answers with this number and leaves its buffer so
 abbrev Leaves : List Asked → ℕ → List ℕ → Type 0
 Leaves before number lent =
-    let left = leftBy damagedFlash (afterCalls damagedFlash atFirst before) readTwo in
+    let left = leftBy damagedFlash (leftAfter (afterCall damagedFlash) atFirst before) readTwo in
     (left .number ≡ number) × (left .lent ≡ lent)
 
 -- the first read puts the byte of the good chunk; the next three ask for the damaged one, are refused with 1, and put nothing
@@ -44,7 +46,7 @@ pub worked-asked : Leaves (openIt ∷ []) 0 (5 ∷ 9 ∷ [])
     × (Leaves (openIt ∷ readTwo ∷ []) 1 (8 ∷ 9 ∷ [])
     × (Leaves (openIt ∷ readTwo ∷ readTwo ∷ []) 1 (8 ∷ 9 ∷ []) × Leaves (openIt ∷ readTwo ∷ readTwo ∷ readTwo ∷ []) 1 (8 ∷ 9 ∷ [])))
 unfolding word bytesOf crc.bits crc.number crc.message crc.among crc.terms crc.generator xor crc.plus crc.divided crc.dividend crc.remainder crc.published over blank chunkHeader
-    pageHeader chunkOfOne damagedFlash pageHeaderFine chunkAt checkedAt moved ready restOf openCheck readerCheck openPage openBytes read readBytes readerLeft afterCall afterCalls
+    pageHeader chunkOfOne damagedFlash pageHeaderFine chunkAt checkedAt moved ready restOf openCheck readerCheck openPage openBytes read readBytes readerLeft afterCall leftAfter
 worked-asked = ((refl, refl), ((refl, refl), ((refl, refl), (refl, refl))))
 
 -- that byte is covered: it is the payload of the walk's first chunk, whose sum is right
@@ -62,9 +64,9 @@ worked-covered = record {
 }
 
 -- a reader that was kept, read on, opened anew and brought back puts that byte again, and it is known where it was opened
-pub worked-kept : NoneUnchecked damagedFlash (afterCalls damagedFlash atFirst (openIt ∷ keepIt ∷ readTwo ∷ openIt ∷ bringItBack ∷ [])) readTwo
+pub worked-kept : NoneUnchecked damagedFlash (leftAfter (afterCall damagedFlash) atFirst (openIt ∷ keepIt ∷ readTwo ∷ openIt ∷ bringItBack ∷ [])) readTwo
 unfolding word bytesOf crc.bits crc.number crc.message crc.among crc.terms crc.generator xor crc.plus crc.divided crc.dividend crc.remainder crc.published over blank chunkHeader
-    pageHeader chunkOfOne damagedFlash pageHeaderFine chunkAt checkedAt moved ready restOf openCheck readerCheck openPage openBytes read readBytes readerLeft afterCall afterCalls
+    pageHeader chunkOfOne damagedFlash pageHeaderFine chunkAt checkedAt moved ready restOf openCheck readerCheck openPage openBytes read readBytes readerLeft afterCall leftAfter
     dehydrate rehydrateFrom
 worked-kept = record {
   puts = record { bytes = 5 ∷ []; many = refl; covered = worked-covered; put = refl };
@@ -72,9 +74,9 @@ worked-kept = record {
 }
 
 -- a read of the damaged chunk is refused, and changes nothing
-pub worked-refusal : NoneUnchecked damagedFlash (afterCalls damagedFlash atFirst (openIt ∷ readTwo ∷ [])) readTwo
+pub worked-refusal : NoneUnchecked damagedFlash (leftAfter (afterCall damagedFlash) atFirst (openIt ∷ readTwo ∷ [])) readTwo
 unfolding word bytesOf crc.bits crc.number crc.message crc.among crc.terms crc.generator xor crc.plus crc.divided crc.dividend crc.remainder crc.published over blank chunkHeader
-    pageHeader chunkOfOne damagedFlash pageHeaderFine chunkAt checkedAt moved ready restOf openCheck readerCheck openPage openBytes read readBytes readerLeft afterCall afterCalls
+    pageHeader chunkOfOne damagedFlash pageHeaderFine chunkAt checkedAt moved ready restOf openCheck readerCheck openPage openBytes read readBytes readerLeft afterCall leftAfter
 worked-refusal = record { puts = refl; refused = λ e. (refl, refl) }
 
 -- ---- a skip over a border

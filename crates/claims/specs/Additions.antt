@@ -7,8 +7,8 @@ use lib.Dec.{eqb, leb}
 use lib.ListN.{length}
 use Rattle.types.specs.declared.page_id.PageID.{PageID}
 use Rattle.flash.specs.Operations.{Op}
+use Rattle.writer.specs.Calls.{World, writes, commits, handsBackIn, leavesIn, openedOn}
 use Rattle.writer.specs.Commits.{commitOps}
-use Rattle.writer.specs.Duties.{writeDuty, commitDuty, handsBack, leaves}
 use Rattle.writer.specs.Openings.{appended}
 use Rattle.writer.specs.Writes.{takenOf, grown, isFull, writeOps, written}
 use Rattle.types.specs.declared.answers.Outcome.{Outcome}
@@ -27,22 +27,16 @@ goOn Done further stopped = further
 goOn (Refused why) further stopped = stopped
 
 -- the flash after writes of the pieces and a commit
-unfoldable pub afterWrites : ℕ → List (List ℕ) → PageWriter → ℕ → List ℕ → List ℕ
-afterWrites e [] w left xs = leaves (commitDuty e xs w) w left xs
-afterWrites e (bytes ∷ pieces) w left xs =
-    let d = writeDuty e xs w bytes in
-    let ended = handsBack d w left in
-    let ys = leaves d w left xs in
-    goOn (ended .answer) (cond (fills w bytes) ys (afterWrites e pieces (ended .writer) (ended .left) ys)) ys
-
-abbrev pub opened : Outcome → List ℕ → List ℕ → List ℕ
-opened Done further stopped = further
-opened (Refused why) further stopped = stopped
+unfoldable pub afterWrites : ℕ → List (List ℕ) → World → List ℕ
+afterWrites e [] x = leavesIn e x commits .flash
+afterWrites e (bytes ∷ pieces) x =
+    let y = leavesIn e x (writes bytes) in
+    goOn (handsBackIn e x (writes bytes) .answer) (cond (fills (x .writer) bytes) (y .flash) (afterWrites e pieces y)) (y .flash)
 
 -- the flash after all of it, where k stores may be made
 unfoldable pub added : ℕ → List ℕ → PageID → ℕ → PageWriter → ℕ → List (List ℕ) → List ℕ
 added e xs page h w k pieces =
-    opened (appended e xs page h w k .answer) (afterWrites e pieces (appended e xs page h w k .writer) (appended e xs page h w k .left) xs) xs
+    goOn (appended e xs page h w k .answer) (afterWrites e pieces (openedOn xs (appended e xs page h w k))) xs
 
 -- ---- what they owe and take in all
 

@@ -86,18 +86,13 @@ slotsBy k (dehydrates slot) = slotFilled k slot (dehydrate (k .reader))
 slotsBy k (rehydrates slot) = k .slots
 slotsBy k asksItsPage = k .slots
 
--- what is at hand after a call, refused or not
+-- what is at hand after a call, refused or not; after any calls it is `leftAfter` of that
 unfoldable pub afterCall : List ℕ → Held → Asked → Held
 afterCall flash k a = record {
   reader = leftBy flash k a .state;
   origin = cond (eqb (leftBy flash k a .number) 0) (originBy k (a .call) (a .lent)) (k .origin);
   slots = slotsBy k (a .call);
 }
-
--- what is at hand after any calls
-unfoldable pub afterCalls : List ℕ → Held → List Asked → Held
-afterCalls flash k [] = k
-afterCalls flash k (a ∷ more) = afterCalls flash (afterCall flash k a) more
 
 -- ---- what a sum covers
 

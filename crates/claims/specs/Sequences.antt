@@ -1,42 +1,29 @@
--- Any calls of a writer that owe operations, one after the other, refused ones among them: each gets the writer, the stores left and
--- the flash that the one before it left, by the definitions that the calls promise. Assumes nothing.
+-- What is claimed of a writer's calls that owe operations: one that is made again, and any of them one after the other, refused ones
+-- among them. Assumes nothing.
+use mathlib.Core.Path.{_≡_}
 use mathlib.Core.List.{List, [], _∷_, _++_}
 use Prim.Native.Nat.{ℕ}
+use Rattle.types.specs.Histories.{toldByEach}
 use Rattle.flash.specs.Geometry.{pageOf}
 use Rattle.flash.specs.Operations.{Op}
-use Rattle.writer.specs.Duties.{Duty, writeDuty, commitDuty, headingDuty, handsBack, leaves, makes}
+use Rattle.writer.specs.Calls.{World, AddCall, writes, commits, heads, handsBackIn, leavesIn, makesIn}
 use Rattle.writer.specs.Landings.{Lands}
-use Rattle.writer.specs.declared.answers.Ended.{Ended}
-use Rattle.writer.specs.declared.page_writer.PageWriter.{PageWriter}
 
--- write, commit, and write_header with its magic and bytes
-pub data AddCall : Type 0 where
-  writes : List ℕ → AddCall
-  commits : AddCall
-  heads : ℕ → List ℕ → AddCall
+-- ---- a call that is made again
 
--- what a call of a writer w owes on a flash
-abbrev pub dutyOf : ℕ → AddCall → List ℕ → PageWriter → Duty
-dutyOf e (writes bytes) flash w = writeDuty e flash w bytes
-dutyOf e commits flash w = commitDuty e flash w
-dutyOf e (heads magic header) flash w = headingDuty e flash w magic header
+-- the same, where `stores` may be made now
+abbrev pub powered : ℕ → World → World
+powered stores x = record { flash = x .flash; writer = x .writer; left = stores }
 
--- ---- one call
+-- what a call left, where `stores` may be made now: there it is made again
+abbrev pub againIn : ℕ → World → AddCall → ℕ → World
+againIn e x call stores = powered stores (leavesIn e x call)
 
--- what it leaves: the answer, the writer and the stores left; the flash
-pub record WriterLeft : Type 0 where
-  pub ended : Ended
-  pub flash : List ℕ
+-- in two worlds a call hands back the same and leaves the same
+abbrev pub SameIn : ℕ → AddCall → World → World → Type 0
+SameIn e call x y = (handsBackIn e x call ≡ handsBackIn e y call) × (leavesIn e x call ≡ leavesIn e y call)
 
--- a call of the writer w, where `left` stores may be made
-abbrev pub called : ℕ → AddCall → PageWriter → ℕ → List ℕ → WriterLeft
-called e call w left xs = record { ended = handsBack (dutyOf e call xs w) w left; flash = leaves (dutyOf e call xs w) w left xs }
-
--- the call made again with what it left, where `stores` may be made now
-abbrev pub calledAgain : ℕ → AddCall → WriterLeft → ℕ → WriterLeft
-calledAgain e call l stores = called e call (l .ended .writer) stores (l .flash)
-
--- ---- all of them
+-- ---- calls one after the other
 
 -- a call that was made: the bytes of its page before it, and the operations that it made
 pub record Making : Type 0 where
@@ -44,20 +31,12 @@ pub record Making : Type 0 where
   pub page : List ℕ
   pub ops : List Op
 
--- what calls make, call by call
-unfoldable pub callsMake : ℕ → List AddCall → PageWriter → ℕ → List ℕ → List Making
-callsMake e [] w left xs = []
-callsMake e (call ∷ calls) w left xs =
-    let l = called e call w left xs in
-    record { call = call; page = pageOf (w .page .0) xs; ops = makes (dutyOf e call xs w) left }
-    ∷ callsMake e calls (l .ended .writer) (l .ended .left) (l .flash)
+abbrev pub makingIn : ℕ → World → AddCall → Making
+makingIn e x call = record { call = call; page = pageOf (x .writer .page .0) (x .flash); ops = makesIn e x call }
 
--- the stores left after them
-unfoldable pub callsLeave : ℕ → List AddCall → PageWriter → ℕ → List ℕ → ℕ
-callsLeave e [] w left xs = left
-callsLeave e (call ∷ calls) w left xs =
-    let l = called e call w left xs in
-    callsLeave e calls (l .ended .writer) (l .ended .left) (l .flash)
+-- what calls make, call by call
+abbrev pub makings : ℕ → World → List AddCall → List Making
+makings e x calls = toldByEach (leavesIn e) (makingIn e) x calls
 
 -- all operations that were made, in their order
 abbrev pub allOps : List Making → List Op

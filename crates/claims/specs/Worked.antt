@@ -8,7 +8,7 @@ use Rattle.crc.specs.Published.{published}
 use Rattle.slices.specs.Patch.{blank}
 use Rattle.page.specs.Chunks.{chunkHeader}
 use Rattle.page.specs.Headers.{pageHeader}
-use Rattle.claims.specs.Sequences.{AddCall, writes, commits, heads}
+use Rattle.writer.specs.Calls.{AddCall, writes, commits, heads}
 
 abbrev pub workedMagic : ℕ
 workedMagic = 7

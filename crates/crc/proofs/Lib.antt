@@ -3,6 +3,7 @@ pub mod DividesLaws
 pub mod RegisterLaws
 pub mod RemainderLaws
 pub mod StepLaws
+pub mod SumLaws
 pub mod TableLaws
 pub mod Vectors
 pub mod WordLaws

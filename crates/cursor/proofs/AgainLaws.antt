@@ -8,14 +8,15 @@ use native.Mathlib.Nat.{le-refl}
 use native.Mathlib.Omega.{arith}
 use lib.ListN.{length, set}
 use Rattle.types.specs.Build.{fileCount}
+use Rattle.types.specs.Checks.{refusedOr}
 use Rattle.types.specs.declared.refusal.Refusal.{Refusal}
 use Rattle.run.specs.declared.bound.Bound.{Bound}
 use Rattle.cursor.specs.Checks.{goodRuns, nextCheck}
-use Rattle.cursor.specs.Next.{entryAnswer, placesBy, putBy, movedBy, nextBy, nextOf, nextKey, nextValue}
+use Rattle.cursor.specs.Next.{entryAnswer, placesBy, putBy, movedBy, entryBy, refusedNext, nextOf, nextKey, nextValue}
 use Rattle.cursor.specs.Pass.{lookAt, lowestKey, shows, withGone, withHolder, withLowest, change, passFrom, unseen, passOf}
 use Rattle.cursor.specs.Places.{gone, placeOf}
 use Rattle.cursor.specs.Runs.{runOf}
-use Rattle.cursor.specs.Settle.{isHidden, left, settleFrom, settled}
+use Rattle.cursor.specs.Settle.{isHidden, bytesAhead, settleFrom, settled}
 use Rattle.cursor.specs.declared.answers.Moved.{Moved}
 use Rattle.cursor.specs.declared.answers.NextAnswer.{NextAnswer}
 use Rattle.cursor.specs.declared.answers.NextAnswer.the-variants.{Refused}
@@ -128,12 +129,12 @@ module _ (bytes ends : List ℕ) (bound : Bound) (upper : List ℕ) where
     last-by start g true h later on = on refl
     last-by start g false h later on = record { from = start; good = g; is = refl; live = h }
 
-    last-only : (start : List RunPlace) → Good ends start → left ends start ≤ 0 → (b : Bool) → isHidden (passOf bytes ends bound upper start .lowest) ≡ b
+    last-only : (start : List RunPlace) → Good ends start → bytesAhead ends start ≤ 0 → (b : Bool) → isHidden (passOf bytes ends bound upper start .lowest) ≡ b
         → Last (passOf bytes ends bound upper start)
     last-only start g m true h = absurd (omega (arith, falls bytes ends bound upper start few h))
     last-only start g m false h = record { from = start; good = g; is = refl; live = h }
 
-    last-from : (more : ℕ) (start : List RunPlace) → Good ends start → left ends start ≤ more → Last (settleFrom bytes ends bound upper more start)
+    last-from : (more : ℕ) (start : List RunPlace) → Good ends start → bytesAhead ends start ≤ more → Last (settleFrom bytes ends bound upper more start)
     unfolding settleFrom
     last-from zero start g m = last-only start g m _ refl
     last-from (suc more) start g m =
@@ -143,7 +144,7 @@ module _ (bytes ends : List ℕ) (bound : Bound) (upper : List ℕ) where
 
     settled-last : (start : List RunPlace) → Good ends start → Last (settled bytes ends bound upper start)
     unfolding settled
-    settled-last start g = last-from (left ends start) start g (le-refl _)
+    settled-last start g = last-from (bytesAhead ends start) start g (le-refl _)
 
   pub live-settles : (more : ℕ) (start : List RunPlace) → isHidden (passOf bytes ends bound upper start .lowest) ≡ false
       → settleFrom bytes ends bound upper more start ≡ passOf bytes ends bound upper start
@@ -155,7 +156,7 @@ module _ (bytes ends : List ℕ) (bound : Bound) (upper : List ℕ) where
   unfolding settled
   last-again p k =
       let a : Alike (passOf bytes ends bound upper (p .places)) p = rw (k .is) (pass-again (k .from)) in
-      rw (live-settles (left ends (p .places)) (p .places) (ap isHidden (a .lowest) ∙ k .live)) a
+      rw (live-settles (bytesAhead ends (p .places)) (p .places) (ap isHidden (a .lowest) ∙ k .live)) a
 
   -- ---- the call
 
@@ -171,7 +172,7 @@ module _ (bytes ends : List ℕ) (bound : Bound) (upper : List ℕ) where
 
     fine-next : (c : Cursor) → nextCheck (length bytes) ends (c .places) ≡ check.Fine → nextOf bytes ends bound upper c keyRoom valueRoom
         ≡ movedBy (entryAnswer bytes ends (settled bytes ends bound upper (c .places) .lowest) keyRoom valueRoom) (settled bytes ends bound upper (c .places))
-    unfolding nextOf nextBy
+    unfolding nextOf
     fine-next c k = rw k
 
     -- from the places of a last pass that is refused, the call is refused and they stay
@@ -188,10 +189,9 @@ module _ (bytes ends : List ℕ) (bound : Bound) (upper : List ℕ) where
         ∙ ap (λ (r : List RunPlace). record { cursor = record { places = r }; answer = Refused why }) (a .places)
 
     next-by : (c : Cursor) (v : Verdict) → nextCheck (length bytes) ends (c .places) ≡ v
-        → nextBy v bytes ends (settled bytes ends bound upper (c .places)) keyRoom valueRoom c .answer ≡ Refused why
-        → nextOf bytes ends bound upper (nextBy v bytes ends (settled bytes ends bound upper (c .places)) keyRoom valueRoom c .cursor) keyRoom valueRoom
-        ≡ nextBy v bytes ends (settled bytes ends bound upper (c .places)) keyRoom valueRoom c
-    unfolding nextOf nextBy
+        → let moved = refusedOr v (refusedNext c) (entryBy bytes ends keyRoom valueRoom (settled bytes ends bound upper (c .places))) in
+        moved .answer ≡ Refused why → nextOf bytes ends bound upper (moved .cursor) keyRoom valueRoom ≡ moved
+    unfolding nextOf
     next-by c (check.Refused x) k e = rw k
     next-by c check.Fine k e =
         let p = settled bytes ends bound upper (c .places) in

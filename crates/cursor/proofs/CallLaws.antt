@@ -1,6 +1,5 @@
 -- The two calls from their parts: the checks, then the work. Assumes nothing.
-use mathlib.Core.Path.{_≡_, refl}
-use mathlib.Core.Bool.{Bool, true, false, cond}
+use mathlib.Core.Path.{_≡_}
 use mathlib.Core.List.{List}
 use Prim.Native.Nat.{ℕ, suc, _+_, _-_, _≤_, _<_}
 use native.Mathlib.Numerals.{add-one}
@@ -14,8 +13,8 @@ use Rattle.run.specs.declared.bound.Bound.{Bound}
 use Rattle.run.specs.declared.search.Sought.{Sought}
 use Rattle.run.specs.declared.search.Sought.the-variants as sought
 use Rattle.cursor.specs.Checks.{goodRuns, newCheck, nextCheck}
-use Rattle.cursor.specs.New.{refusedNew, afterSearch, newFrom, newBy, newOf}
-use Rattle.cursor.specs.Next.{entryAnswer, placesBy, putBy, movedBy, nextBy, nextOf, nextKey, nextValue}
+use Rattle.cursor.specs.New.{refusedNew, afterSearch, newFrom, newOf}
+use Rattle.cursor.specs.Next.{entryAnswer, placesBy, putBy, movedBy, refusedNext, nextOf, nextKey, nextValue}
 use Rattle.cursor.specs.Pass.{lowestKey, lowestValue}
 use Rattle.cursor.specs.Places.{atPlace, allGone}
 use Rattle.cursor.specs.Runs.{runOf}
@@ -24,28 +23,23 @@ use Rattle.cursor.specs.declared.answers.Moved.{Moved}
 use Rattle.types.specs.declared.answers.Outcome.the-variants.{Done}
 use Rattle.cursor.specs.declared.answers.NewCursor.{NewCursor}
 use Rattle.cursor.specs.declared.answers.NextAnswer.{NextAnswer}
-use Rattle.cursor.specs.declared.answers.NextAnswer.the-variants.{Refused}
 use Rattle.types.specs.declared.refusal.Verdict.{Verdict}
 use Rattle.types.specs.declared.refusal.Verdict.the-variants as check
 use Rattle.cursor.specs.declared.pass.Pass.{Pass}
 use Rattle.cursor.specs.declared.place.Cursor.{Cursor}
 use Rattle.cursor.specs.declared.place.RunPlace.{RunPlace}
+use Rattle.types.proofs.CheckLaws.{asking-fine}
 use Rattle.cursor.proofs.CheckLaws.{good-few}
 
 -- ---- what a passed check tells
 
-few-by : (size : ℕ) (ends : List ℕ) (x : Verdict) (b : Bool) → goodRuns size ends ≡ b → cond b x (check.Refused BadRuns) ≡ check.Fine
-    → length ends ≤ fileCount
-few-by size ends x true g e = good-few size ends g
-few-by size ends x false g e = let z : _≡_ {A = ℕ} 0 1 = cc in absurd (omega arith)
-
 pub new-few : (size : ℕ) (ends : List ℕ) → newCheck size ends ≡ check.Fine → length ends ≤ fileCount
 unfolding newCheck
-new-few size ends e = few-by size ends _ _ refl e
+new-few size ends e = good-few size ends (asking-fine (goodRuns size ends) BadRuns _ e .0)
 
 pub next-few : (size : ℕ) (ends : List ℕ) (places : List RunPlace) → nextCheck size ends places ≡ check.Fine → length ends ≤ fileCount
 unfolding nextCheck
-next-few size ends places e = few-by size ends _ _ refl e
+next-few size ends places e = good-few size ends (asking-fine (goodRuns size ends) BadRuns _ e .0)
 
 -- ---- next
 
@@ -57,8 +51,8 @@ module _ (bytes ends : List ℕ) (bound : Bound) (upper : List ℕ) (c : Cursor)
       × ((x ≡ nextKey bytes ends bound upper c key value) × (y ≡ nextValue bytes ends bound upper c key value))
 
   module _ (ch : Verdict) (is : ch ≡ nextCheck (length bytes) ends (c .places)) where
-    pub next-refused : (why : Refusal) → ch ≡ check.Refused why → Answered (record { cursor = c; answer = Refused why }) key value
-    unfolding nextOf nextBy nextKey nextValue putBy
+    pub next-refused : (why : Refusal) → ch ≡ check.Refused why → Answered (refusedNext c why) key value
+    unfolding nextOf nextKey nextValue putBy
     next-refused why q = (rw (← is, q), (rw (← is, q), rw (← is, q)))
 
     pub next-settled : ch ≡ check.Fine → (p : Pass) → p ≡ settled bytes ends bound upper (c .places)
@@ -66,7 +60,7 @@ module _ (bytes ends : List ℕ) (bound : Bound) (upper : List ℕ) (c : Cursor)
         → (x y : List ℕ)
         → (x ≡ putBy a (lowestKey bytes ends (p .lowest)) key) × (y ≡ putBy a (lowestValue bytes ends (p .lowest)) value)
         → (row : List RunPlace) → row ≡ placesBy a p → Answered (record { cursor = record { places = row }; answer = a }) x y
-    unfolding nextOf nextBy nextKey nextValue movedBy
+    unfolding nextOf nextKey nextValue movedBy
     next-settled q p s a e x y d row r =
         (rw (← is, q, ← s, r, e), (rw (← is, q, ← s) (rw e at (d .0)), rw (← is, q, ← s) (rw e at (d .1))))
 
@@ -75,12 +69,12 @@ module _ (bytes ends : List ℕ) (bound : Bound) (upper : List ℕ) (c : Cursor)
 module _ (bytes ends : List ℕ) (bound : Bound) (lower : List ℕ) where
   pub new-refused : (ch : Verdict) → ch ≡ newCheck (length bytes) ends → (why : Refusal) → ch ≡ check.Refused why
       → refusedNew why ≡ newOf bytes ends bound lower
-  unfolding newOf newBy
+  unfolding newOf
   new-refused ch is why q = rw (← is, q)
 
   pub new-fine : (ch : Verdict) → ch ≡ newCheck (length bytes) ends → ch ≡ check.Fine
       → newFrom bytes ends bound lower (length ends - 0) 0 allGone ≡ newOf bytes ends bound lower
-  unfolding newOf newBy
+  unfolding newOf
   new-fine ch is q = let z : length ends - 0 ≡ length ends = omega arith in rw (z, ← is, q)
 
   module _ (i : ℕ) (places : List RunPlace) (answer : NewCursor)

@@ -14,7 +14,7 @@ use Rattle.run.specs.declared.record.Record.{Record}
 use Rattle.cursor.specs.Merged.{Pair}
 use Rattle.cursor.specs.Pass.{passOf}
 use Rattle.cursor.specs.Runs.{runOf}
-use Rattle.cursor.specs.Settle.{isHidden, left, settleFrom, settled}
+use Rattle.cursor.specs.Settle.{isHidden, bytesAhead, settleFrom, settled}
 use Rattle.cursor.specs.Union.{union, lives}
 use Rattle.cursor.specs.declared.look.Lowest.{Lowest}
 use Rattle.cursor.specs.declared.look.Lowest.the-variants.{None, Found, Refused}
@@ -100,14 +100,14 @@ module _ (bytes ends : List ℕ) (bound : Bound) (upper : List ℕ) where
     turn later on true d = on d
     turn later on false d = live-settled d
 
-    turn-last : left ends start ≤ 0 → (b : Bool) → isHidden (passOf bytes ends bound upper start .lowest) ≡ b → Settled items (passOf bytes ends bound upper start)
+    turn-last : bytesAhead ends start ≤ 0 → (b : Bool) → isHidden (passOf bytes ends bound upper start .lowest) ≡ b → Settled items (passOf bytes ends bound upper start)
     turn-last m true d = absurd (omega (arith, falls bytes ends bound upper start few d))
     turn-last m false d = live-settled d
 
   carried : (items rest : ℕ → List Item) (p : Pass) → coming ends items ≡ coming ends rest → Settled rest p → Settled items p
   carried items rest p e s = record { comes = comes-same items rest p (p .lowest) e (s .comes); places = s .places; stepped = s .stepped }
 
-  settle-by : length ends ≤ fileCount → (more : ℕ) (start : List RunPlace) (items : ℕ → List Item) → Left bytes ends bound upper items start → Good ends start → left ends start ≤ more
+  settle-by : length ends ≤ fileCount → (more : ℕ) (start : List RunPlace) (items : ℕ → List Item) → Left bytes ends bound upper items start → Good ends start → bytesAhead ends start ≤ more
       → Settled items (settleFrom bytes ends bound upper more start)
   unfolding settleFrom
   settle-by few zero start items l g m = turn-last few start items l g m _ refl
@@ -124,4 +124,4 @@ module _ (bytes ends : List ℕ) (bound : Bound) (upper : List ℕ) where
   pub settled-comes : length ends ≤ fileCount → (start : List RunPlace) (items : ℕ → List Item) → Left bytes ends bound upper items start → Good ends start
       → Settled items (settled bytes ends bound upper start)
   unfolding settled
-  settled-comes few start items l g = settle-by few (left ends start) start items l g (le-refl _)
+  settled-comes few start items l g = settle-by few (bytesAhead ends start) start items l g (le-refl _)

@@ -6,13 +6,14 @@ use Prim.Native.Nat.{ℕ, zero, suc, _<_}
 use native.Mathlib.Omega.{arith}
 use lib.Dec.{ltb}
 use lib.ListN.{length}
+use Rattle.types.specs.Checks.{refusedOr}
 use Rattle.types.specs.declared.refusal.Refusal.the-variants.{KeyBufferTooSmall, ValueBufferTooSmall}
 use Rattle.run.specs.declared.bound.Bound.{Bound}
 use Rattle.cursor.specs.Checks.{nextCheck}
-use Rattle.cursor.specs.Next.{fitted, answerBy, placesBy, movedBy, nextBy, nextOf}
+use Rattle.cursor.specs.Next.{fitted, answerBy, placesBy, movedBy, entryBy, refusedNext, nextOf}
 use Rattle.cursor.specs.Pass.{passOf}
 use Rattle.cursor.specs.Places.{placeOf}
-use Rattle.cursor.specs.Settle.{isHidden, left, settleFrom, settled}
+use Rattle.cursor.specs.Settle.{isHidden, bytesAhead, settleFrom, settled}
 use Rattle.cursor.specs.declared.answers.NextAnswer.the-variants.{End, Entry, Refused}
 use Rattle.types.specs.declared.refusal.Verdict.{Verdict}
 use Rattle.types.specs.declared.refusal.Verdict.the-variants as check
@@ -56,13 +57,13 @@ module _ (bytes ends : List ℕ) (bound : Bound) (upper : List ℕ) where
       by false further e = pass-ends bytes ends bound upper places e i b .1
 
   module _ (c : Cursor) (keyRoom valueRoom : ℕ) where
-    gone-by : (k : Verdict) (p : Pass) → (p .lowest ≡ low.None → AllGone (p .places)) → nextBy k bytes ends p keyRoom valueRoom c .answer ≡ End
-        → AllGone (nextBy k bytes ends p keyRoom valueRoom c .cursor .places)
-    unfolding nextBy movedBy placesBy
+    gone-by : (k : Verdict) (p : Pass) → (p .lowest ≡ low.None → AllGone (p .places)) → refusedOr k (refusedNext c) (entryBy bytes ends keyRoom valueRoom p) .answer ≡ End
+        → AllGone (refusedOr k (refusedNext c) (entryBy bytes ends keyRoom valueRoom p) .cursor .places)
+    unfolding movedBy placesBy
     gone-by check.Fine p gone e i b =
         subst (λ a. placeOf (placesBy a p) i ≡ Gone) (sym e) (gone (end-none (p .lowest) keyRoom valueRoom _ _ e) i b)
     gone-by (check.Refused why) p gone e i b = let z : _≡_ {A = ℕ} 0 1 = cc in absurd (omega arith)
 
     pub end-gone : nextOf bytes ends bound upper c keyRoom valueRoom .answer ≡ End → AllGone (nextOf bytes ends bound upper c keyRoom valueRoom .cursor .places)
     unfolding nextOf settled
-    end-gone e = gone-by (nextCheck (length bytes) ends (c .places)) _ (settled-gone (left ends (c .places)) (c .places)) e
+    end-gone e = gone-by (nextCheck (length bytes) ends (c .places)) _ (settled-gone (bytesAhead ends (c .places)) (c .places)) e

@@ -11,6 +11,7 @@ use lib.Dec.{ltb}
 use lib.ListN.{length, take}
 use borrow.Author.Tests.{ltb-false}
 use Rattle.types.specs.Build.{fileCount}
+use Rattle.types.specs.Checks.{refusedOr}
 use Rattle.types.specs.declared.refusal.Refusal.the-variants.{KeyBufferTooSmall, ValueBufferTooSmall}
 use Rattle.types.specs.declared.refusal.Verdict.{Verdict}
 use Rattle.types.specs.declared.refusal.Verdict.the-variants as check
@@ -19,12 +20,12 @@ use Rattle.run.specs.Records.{keyIn, valueIn}
 use Rattle.run.specs.declared.bound.Bound.{Bound}
 use Rattle.run.specs.declared.record.Record.{Record}
 use Rattle.cursor.specs.Checks.{nextCheck}
-use Rattle.cursor.specs.Next.{fitted, answerBy, entryAnswer, placesBy, putBy, movedBy, nextBy, nextOf, nextKey, nextValue}
+use Rattle.cursor.specs.Next.{fitted, answerBy, entryAnswer, placesBy, putBy, movedBy, entryBy, refusedNext, nextOf, nextKey, nextValue}
 use Rattle.cursor.specs.Pass.{lowestKey, lowestValue, passOf}
 use Rattle.cursor.specs.Runs.{runOf}
-use Rattle.cursor.specs.Settle.{isHidden, left, settleFrom, settled}
+use Rattle.cursor.specs.Settle.{isHidden, bytesAhead, settleFrom, settled}
 use Rattle.cursor.specs.declared.answers.NextAnswer.{NextAnswer}
-use Rattle.cursor.specs.declared.answers.NextAnswer.the-variants.{End, Entry, Refused}
+use Rattle.cursor.specs.declared.answers.NextAnswer.the-variants.{Entry, Refused}
 use Rattle.cursor.specs.declared.look.Lowest.{Lowest}
 use Rattle.cursor.specs.declared.look.Lowest.the-variants as low
 use Rattle.cursor.specs.declared.pass.Pass.{Pass}
@@ -57,12 +58,12 @@ module _ (bytes ends : List ℕ) (bound : Bound) (upper : List ℕ) where
   turn places later on true d = on d
   turn places later on false d = (places, refl, d)
 
-  turn-last : length ends ≤ fileCount → (places : List RunPlace) → left ends places ≤ 0
+  turn-last : length ends ≤ fileCount → (places : List RunPlace) → bytesAhead ends places ≤ 0
       → (b : Bool) → isHidden (passOf bytes ends bound upper places .lowest) ≡ b → Live (passOf bytes ends bound upper places)
   turn-last few places m true d = absurd (omega (arith, falls bytes ends bound upper places few d))
   turn-last few places m false d = (places, refl, d)
 
-  settle-live : length ends ≤ fileCount → (more : ℕ) (places : List RunPlace) → left ends places ≤ more
+  settle-live : length ends ≤ fileCount → (more : ℕ) (places : List RunPlace) → bytesAhead ends places ≤ more
       → Live (settleFrom bytes ends bound upper more places)
   unfolding settleFrom
   settle-live few zero places m = turn-last few places m _ refl
@@ -72,7 +73,7 @@ module _ (bytes ends : List ℕ) (bound : Bound) (upper : List ℕ) where
 
   settled-live : length ends ≤ fileCount → (places : List RunPlace) → Live (settled bytes ends bound upper places)
   unfolding settled
-  settled-live few places = settle-live few (left ends places) places (le-refl _)
+  settled-live few places = settle-live few (bytesAhead ends places) places (le-refl _)
 
   -- ---- the entry
 
@@ -91,10 +92,10 @@ module _ (bytes ends : List ℕ) (bound : Bound) (upper : List ℕ) where
       pub value-is : take v (nextValue bytes ends bound upper c key value) ≡ valueIn (runOf bytes ends run) held
       pub steps : nextOf bytes ends bound upper c (length key) (length value) .cursor .places ≡ passOf bytes ends bound upper start .stepped
 
-    fine-by : (ch : Verdict) (p : Pass) → nextBy ch bytes ends p (length key) (length value) c .answer ≡ Entry k v
+    fine-by : (ch : Verdict) (p : Pass) → refusedOr ch (refusedNext c) (entryBy bytes ends (length key) (length value) p) .answer ≡ Entry k v
         → (ch ≡ check.Fine) × (entryAnswer bytes ends (p .lowest) (length key) (length value) ≡ Entry k v)
-        × (nextBy ch bytes ends p (length key) (length value) c .cursor .places ≡ p .stepped)
-    unfolding nextBy movedBy placesBy
+        × (refusedOr ch (refusedNext c) (entryBy bytes ends (length key) (length value) p) .cursor .places ≡ p .stepped)
+    unfolding movedBy placesBy
     fine-by check.Fine p e = (refl, e, ap (λ (a : NextAnswer). placesBy a p) e)
     fine-by (check.Refused why) p e = let z : _≡_ {A = ℕ} 0 1 = cc in absurd (omega arith)
 

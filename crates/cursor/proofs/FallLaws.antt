@@ -18,7 +18,7 @@ use Rattle.slices.proofs.PartLaws.{part-fits}
 use Rattle.cursor.specs.Pass.{withGone, passOf}
 use Rattle.cursor.specs.Places.{gone, atPlace, placeOf}
 use Rattle.cursor.specs.Runs.{startOf, endOf, runOf}
-use Rattle.cursor.specs.Settle.{isHidden, leftAt, leftOf, sumTo, left}
+use Rattle.cursor.specs.Settle.{isHidden, leftAt, aheadIn, sumTo, bytesAhead}
 use Rattle.cursor.specs.declared.look.Lowest.{Lowest}
 use Rattle.cursor.specs.declared.look.Lowest.the-variants.{None, Found, Refused}
 use Rattle.cursor.specs.declared.pass.Pass.{Pass}
@@ -44,18 +44,18 @@ sum-lt (suc n) f g h k b l =
 -- ---- what a run has left
 
 module _ (ends : List ℕ) where
-  left-other : (places : List RunPlace) (i j : ℕ) (x : RunPlace) → (j ≡ i → ⊥) → leftOf ends (set places i x) j ≡ leftOf ends places j
+  left-other : (places : List RunPlace) (i j : ℕ) (x : RunPlace) → (j ≡ i → ⊥) → aheadIn ends (set places i x) j ≡ aheadIn ends places j
   left-other places i j x n = rw (set-other places i j x n)
 
-  left-gone : (places : List RunPlace) (i j : ℕ) → j ≡ i → leftOf ends (set places i gone) j ≡ 0
+  left-gone : (places : List RunPlace) (i j : ℕ) → j ≡ i → aheadIn ends (set places i gone) j ≡ 0
   unfolding leftAt
   left-gone places i j e = rw e (rw (set-gone places i))
 
-  left-at : (places : List RunPlace) (i at : ℕ) → placeOf places i ≡ At at → leftOf ends places i ≡ endOf ends i - startOf ends i - at
+  left-at : (places : List RunPlace) (i at : ℕ) → placeOf places i ≡ At at → aheadIn ends places i ≡ endOf ends i - startOf ends i - at
   unfolding leftAt
   left-at places i at p = rw p
 
-  left-set : (places : List RunPlace) (i n : ℕ) → leftOf ends (set places i (atPlace n)) i ≤ endOf ends i - startOf ends i - n
+  left-set : (places : List RunPlace) (i n : ℕ) → aheadIn ends (set places i (atPlace n)) i ≤ endOf ends i - startOf ends i - n
   unfolding leftAt
   left-set places i n = ⊎-elim (λ e. rw e (le-refl _)) (λ e. rw e zero-le) (set-cases places i (atPlace n))
 
@@ -65,12 +65,12 @@ module _ (bytes ends : List ℕ) (bound : Bound) (upper : List ℕ) (start : Lis
   -- the run that decides has fewer bytes left
   abbrev Nearer : ℕ → Pass → Lowest → Type 0
   Nearer i p None = Unit {0}
-  Nearer i p (Found j r) = (j < i) × (leftOf ends (p .stepped) j < leftOf ends (p .places) j)
+  Nearer i p (Found j r) = (j < i) × (aheadIn ends (p .stepped) j < aheadIn ends (p .places) j)
   Nearer i p (Refused why) = Unit {0}
 
   record Falls (i : ℕ) (p : Pass) : Type 0 where
-    places : (j : ℕ) → leftOf ends (p .places) j ≤ leftOf ends start j
-    stepped : (j : ℕ) → leftOf ends (p .stepped) j ≤ leftOf ends (p .places) j
+    places : (j : ℕ) → aheadIn ends (p .places) j ≤ aheadIn ends start j
+    stepped : (j : ℕ) → aheadIn ends (p .stepped) j ≤ aheadIn ends (p .places) j
     nearer : Nearer i p (p .lowest)
 
   nearer-later : (i : ℕ) (p : Pass) (l : Lowest) → Nearer i p l → Nearer (suc i) p l
@@ -96,11 +96,11 @@ module _ (bytes ends : List ℕ) (bound : Bound) (upper : List ℕ) (start : Lis
 
   -- run i steps on in a row of places that has no more left than the other
   falls-on : (i : ℕ) (p : Pass) (at : ℕ) (r : Record) (o : Ordering) → Falls i p → Sees bytes ends bound upper i p at r o
-      → (row : List RunPlace) → ((j : ℕ) → leftOf ends row j ≤ leftOf ends (p .places) j)
+      → (row : List RunPlace) → ((j : ℕ) → aheadIn ends row j ≤ aheadIn ends (p .places) j)
       → Falls (suc i) (record { places = p .places; stepped = set row i (atPlace (r .next)); lowest = Found i r })
   falls-on i p at r o h s row k =
       let l = head-lies (runOf bytes ends i) at r (s .head) in
-      let strict : leftOf ends (set row i (atPlace (r .next))) i < leftOf ends (p .places) i
+      let strict : aheadIn ends (set row i (atPlace (r .next))) i < aheadIn ends (p .places) i
       = omega (arith, l .header, l .key, l .value, l .end, left-set ends row i (r .next), left-at ends (p .places) i at (s .place), part-fits bytes (startOf ends i) (endOf ends i)) in
       record {
         places = h .places;
@@ -117,28 +117,28 @@ module _ (bytes ends : List ℕ) (bound : Bound) (upper : List ℕ) (start : Lis
   }
 
   found-falls : (p : Pass) → length ends ≤ fileCount → Falls (length ends) p → (l : Lowest) → p .lowest ≡ l → isHidden l ≡ true
-      → left ends (p .stepped) < left ends start
-  unfolding left isHidden
+      → bytesAhead ends (p .stepped) < bytesAhead ends start
+  unfolding bytesAhead isHidden
   found-falls p few h None e t = let z : _≡_ {A = Bool} false true = t in let y : _≡_ {A = ℕ} 0 1 = cc in absurd (omega arith)
   found-falls p few h (Found j r) e t =
       let n : Nearer (length ends) p (Found j r) = rw e at (h .nearer) in
       let small : j < fileCount = omega (arith, n .0) in
       omega (
         arith,
-        sum-lt fileCount (leftOf ends (p .stepped)) (leftOf ends (p .places)) (h .stepped) j small (n .1),
-        sum-le fileCount (leftOf ends (p .places)) (leftOf ends start) (h .places),
+        sum-lt fileCount (aheadIn ends (p .stepped)) (aheadIn ends (p .places)) (h .stepped) j small (n .1),
+        sum-le fileCount (aheadIn ends (p .places)) (aheadIn ends start) (h .places),
       )
   found-falls p few h (Refused why) e t = let z : _≡_ {A = Bool} false true = t in let y : _≡_ {A = ℕ} 0 1 = cc in absurd (omega arith)
 
   after-falls : (p : Pass) → length ends ≤ fileCount → After bytes ends bound upper Falls p → isHidden (p .lowest) ≡ true
-      → left ends (p .stepped) < left ends start
+      → bytesAhead ends (p .stepped) < bytesAhead ends start
   unfolding isHidden
   after-falls p few (whole h) t = found-falls p few h _ refl t
   after-falls _ few (cut i p why m h q) t = let z : _≡_ {A = Bool} false true = t in let y : _≡_ {A = ℕ} 0 1 = cc in absurd (omega arith)
 
   -- a pass that finds a deletion leaves fewer bytes
   pub falls : length ends ≤ fileCount → isHidden (passOf bytes ends bound upper start .lowest) ≡ true
-      → left ends (passOf bytes ends bound upper start .stepped) < left ends start
+      → bytesAhead ends (passOf bytes ends bound upper start .stepped) < bytesAhead ends start
   falls few t =
       after-falls _ few
       (pass-rule bytes ends bound upper Falls kept start (record { places = λ j. le-refl _; stepped = λ j. le-refl _; nearer = tt })) t

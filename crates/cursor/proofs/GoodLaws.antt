@@ -1,6 +1,6 @@
 -- A cursor that is within its ranges stays there: passes step on within the runs. Assumes nothing.
 use mathlib.Core.Path.{_≡_, refl, sym, _∙_}
-use mathlib.Core.Bool.{Bool, true, false, cond}
+use mathlib.Core.Bool.{true}
 use mathlib.Core.List.{List}
 use mathlib.Core.Logic.{⊎-elim}
 use Prim.Native.Nat.{ℕ, zero, suc, _+_, _-_, _≤_, _<_}
@@ -10,6 +10,7 @@ use lib.ListN.{length, set}
 use borrow.Author.Tests.{lt-ltb, le-leb, ltb-true, leb-true}
 use Rattle.types.specs.Build.{fileCount}
 use Rattle.types.specs.declared.refusal.Refusal.the-variants.{BadRuns, BadState}
+use Rattle.types.proofs.CheckLaws.{asking-fine}
 use Rattle.types.proofs.TestLaws.{eq-or-ne, both-true}
 use Rattle.run.specs.declared.bound.Bound.{Bound}
 use Rattle.keys.specs.declared.order.Ordering.{Ordering}
@@ -20,7 +21,7 @@ use Rattle.cursor.specs.Checks.{goodRuns, goodPlace, goodFrom, goodPlace
 use Rattle.cursor.specs.Pass.{passOf}
 use Rattle.cursor.specs.Places.{gone, atPlace, placeOf}
 use Rattle.cursor.specs.Runs.{startOf, endOf, runOf}
-use Rattle.types.specs.declared.refusal.Verdict.the-variants.{Fine, Refused}
+use Rattle.types.specs.declared.refusal.Verdict.the-variants.{Fine}
 use Rattle.cursor.specs.declared.pass.Pass.{Pass}
 use Rattle.cursor.specs.declared.place.Place.{Place}
 use Rattle.cursor.specs.declared.place.Place.the-variants.{At, Gone}
@@ -69,17 +70,12 @@ module _ (ends : List ℕ) (places : List RunPlace) where
       ⊎-elim (λ (q : k ≡ i). rw q (place-good i (placeOf places i) (b .0) at (rw q at e)))
       (λ (n : k ≡ i → ⊥). from-good count (suc i) (b .1) k at (omega arith) (omega arith) e) (eq-or-ne k i)
 
-  check-by : (size : ℕ) (r p : Bool) → goodRuns size ends ≡ r → goodPlaces ends places ≡ p → cond r (cond p Fine (Refused BadState)) (Refused BadRuns) ≡ Fine
-      → (goodRuns size ends ≡ true) × Good ends places
-  unfolding goodPlaces
-  check-by size true true r p e = (r, λ i at f q. from-good fileCount 0 p i at (omega arith) (omega arith) q)
-  check-by size true false r p e = let z : _≡_ {A = ℕ} 0 1 = cc in absurd (omega arith)
-  check-by size false true r p e = let z : _≡_ {A = ℕ} 0 1 = cc in absurd (omega arith)
-  check-by size false false r p e = let z : _≡_ {A = ℕ} 0 1 = cc in absurd (omega arith)
-
   pub check-good : (size : ℕ) → nextCheck size ends places ≡ Fine → (goodRuns size ends ≡ true) × Good ends places
-  unfolding nextCheck
-  check-good size e = check-by size (goodRuns size ends) (goodPlaces ends places) refl refl e
+  unfolding nextCheck goodPlaces
+  check-good size e =
+      let r = asking-fine (goodRuns size ends) BadRuns _ e in
+      let p = asking-fine (goodPlaces ends places) BadState _ (r .1) in
+      (r .0, λ i at f q. from-good fileCount 0 (p .0) i at (omega arith) (omega arith) q)
 
 -- ---- setting a place
 

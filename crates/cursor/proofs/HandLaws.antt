@@ -13,7 +13,7 @@ use Rattle.run.specs.declared.bound.Bound.{Bound}
 use Rattle.run.specs.declared.record.Record.{Record}
 use Rattle.cursor.specs.Checks.{goodRuns}
 use Rattle.cursor.specs.Merged.{Pair, Hands, end, entry}
-use Rattle.cursor.specs.Next.{answerBy, entryAnswer, placesBy, putBy, movedBy, nextBy, nextOf, nextKey, nextValue}
+use Rattle.cursor.specs.Next.{answerBy, entryAnswer, placesBy, putBy, movedBy, nextOf, nextKey, nextValue}
 use Rattle.cursor.specs.Pass.{lowestKey, lowestValue}
 use Rattle.cursor.specs.Settle.{settled}
 use Rattle.cursor.specs.declared.answers.Moved.{Moved}
@@ -43,7 +43,7 @@ module _ (bytes ends : List ℕ) (bound : Bound) (upper : List ℕ) (good : good
 
     moved : nextOf bytes ends bound upper c (length key) (length value)
         ≡ movedBy (entryAnswer bytes ends (settled bytes ends bound upper (c .places) .lowest) (length key) (length value)) (settled bytes ends bound upper (c .places))
-    unfolding nextOf nextBy
+    unfolding nextOf
     moved = rw (good-check ends (c .places) g (length bytes) good)
 
     -- nothing is to come

@@ -1,6 +1,6 @@
 pub mod AgainLaws
 pub mod BoundLaws
-pub mod BoundTableLaws
+pub mod BoundsHold
 pub mod CallLaws
 pub mod CheckLaws
 pub mod ComingLaws

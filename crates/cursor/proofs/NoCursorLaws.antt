@@ -6,6 +6,7 @@ use Prim.Native.Nat.{ℕ, zero, suc}
 use native.Mathlib.Omega.{arith}
 use lib.ListN.{length}
 use Rattle.types.specs.Build.{fileCount}
+use Rattle.types.specs.Checks.{refusedOr}
 use Rattle.types.specs.declared.refusal.Refusal.{Refusal}
 use Rattle.types.proofs.TestLaws.{eq-or-ne}
 use Rattle.run.specs.Search.{searchIn}
@@ -13,12 +14,12 @@ use Rattle.run.specs.declared.bound.Bound.{Bound}
 use Rattle.run.specs.declared.search.Sought.{Sought}
 use Rattle.run.specs.declared.search.Sought.the-variants as sought
 use Rattle.cursor.specs.Checks.{newCheck, nextCheck}
-use Rattle.cursor.specs.New.{afterSearch, newFrom, newBy, newOf}
-use Rattle.cursor.specs.Next.{entryAnswer, answerBy, putBy, movedBy, nextBy, nextOf, nextKey, nextValue}
+use Rattle.cursor.specs.New.{refusedNew, afterSearch, newFrom, newOf}
+use Rattle.cursor.specs.Next.{entryAnswer, answerBy, putBy, movedBy, entryBy, refusedNext, nextOf, nextKey, nextValue}
 use Rattle.cursor.specs.Pass.{passOf}
 use Rattle.cursor.specs.Places.{gone, placeOf, allGone}
 use Rattle.cursor.specs.Runs.{runOf}
-use Rattle.cursor.specs.Settle.{isHidden, left, settled}
+use Rattle.cursor.specs.Settle.{isHidden, bytesAhead, settled}
 use Rattle.types.specs.declared.answers.Outcome.the-variants as outcome
 use Rattle.cursor.specs.declared.answers.NewCursor.{NewCursor}
 use Rattle.types.specs.declared.refusal.Verdict.{Verdict}
@@ -54,8 +55,7 @@ module _ (bytes ends : List ℕ) (bound : Bound) (lower : List ℕ) (why : Refus
       empty-by (searchIn (runOf bytes ends i) bound lower) i places (λ p. newFrom bytes ends bound lower count (suc i) p)
       (λ q. empty-from count (suc i) q) e
 
-  empty-check : (v : Verdict) → Empty (newBy v bytes ends bound lower)
-  unfolding newBy
+  empty-check : (v : Verdict) → Empty (refusedOr v refusedNew (newFrom bytes ends bound lower (length ends) 0 allGone))
   empty-check check.Fine e = empty-from (length ends) 0 allGone e
   empty-check (check.Refused x) e = refl
 
@@ -93,12 +93,12 @@ module _ (bytes ends : List ℕ) (bound : Bound) (upper : List ℕ) where
   none-there =
       let n : passOf bytes ends bound upper allGone .lowest ≡ None
       = after-none _ (pass-rule bytes ends bound upper Nothing kept allGone (record { lowest = refl; places = λ k. replicate-gone fileCount k })) in
-      ap (λ (p : Pass). p .lowest) (live-settles bytes ends bound upper (left ends allGone) allGone (ap isHidden n)) ∙ n
+      ap (λ (p : Pass). p .lowest) (live-settles bytes ends bound upper (bytesAhead ends allGone) allGone (ap isHidden n)) ∙ n
 
   -- whatever the checks say, no buffer is touched
   module _ (found buffer : List ℕ) (keyRoom valueRoom : ℕ) where
-    still-by : (v : Verdict) (p : Pass) (c : Cursor) → p .lowest ≡ None → putBy (nextBy v bytes ends p keyRoom valueRoom c .answer) found buffer ≡ buffer
-    unfolding nextBy movedBy answerBy putBy
+    still-by : (v : Verdict) (p : Pass) (c : Cursor) → p .lowest ≡ None → putBy (refusedOr v (refusedNext c) (entryBy bytes ends keyRoom valueRoom p) .answer) found buffer ≡ buffer
+    unfolding movedBy answerBy putBy
     still-by check.Fine p c n = ap (λ (l : Lowest). putBy (entryAnswer bytes ends l keyRoom valueRoom) found buffer) n
     still-by (check.Refused why) p c n = refl
 

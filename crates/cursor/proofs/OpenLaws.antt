@@ -16,7 +16,7 @@ use Rattle.run.specs.declared.search.Sought.the-variants as sought
 use Rattle.slices.proofs.PartLaws.{part-fits}
 use Rattle.cursor.specs.Checks.{goodRuns, newCheck}
 use Rattle.cursor.specs.Merged.{orElse, said, between}
-use Rattle.cursor.specs.New.{afterSearch, newFrom, newBy, newOf}
+use Rattle.cursor.specs.New.{afterSearch, newFrom, newOf}
 use Rattle.cursor.specs.Places.{gone, atPlace, placeOf, allGone}
 use Rattle.cursor.specs.Runs.{startOf, endOf, runOf}
 use Rattle.cursor.specs.Union.{kept}
@@ -142,7 +142,7 @@ module _ (low : Bound) (lower : List ℕ) (high : Bound) (upper : List ℕ) wher
     }
 
     made : goodRuns (length bytes) ends ≡ true → Made (newOf bytes ends low lower)
-    unfolding newOf newCheck newBy
+    unfolding newOf newCheck
     made g = rw g (opened-from (length ends) 0 (omega arith) allGone unopened)
 
     pub opened : goodRuns (length bytes) ends ≡ true

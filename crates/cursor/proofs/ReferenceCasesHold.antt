@@ -9,18 +9,18 @@ use Rattle.slices.specs.Patch.{over}
 use Rattle.run.specs.Records.{bodyAt, headBy, headAt}
 use Rattle.run.specs.Search.{soughtBy, soughtHead, soughtFrom, searchIn}
 use Rattle.cursor.specs.Checks.{risingEnds, goodRuns, goodPlace, goodFrom, goodPlaces, newCheck, nextCheck}
-use Rattle.cursor.specs.New.{afterSearch, newFrom, newBy, newOf}
-use Rattle.cursor.specs.Next.{fitted, answerBy, placesBy, putBy, movedBy, nextBy, nextOf, nextKey, nextValue}
+use Rattle.cursor.specs.New.{afterSearch, newFrom, newOf}
+use Rattle.cursor.specs.Next.{fitted, answerBy, placesBy, putBy, movedBy, nextOf, nextKey, nextValue}
 use Rattle.cursor.specs.Pass.{againstLowest, lookBy, lookHead, lookAt, lowestKey, lowestValue, shows, change, passFrom, passOf}
 use Rattle.cursor.specs.Runs.{startOf}
-use Rattle.cursor.specs.Settle.{isHidden, leftAt, sumTo, left, settleFrom, settled}
+use Rattle.cursor.specs.Settle.{isHidden, leftAt, sumTo, bytesAhead, settleFrom, settled}
 use Rattle.cursor.specs.ReferenceCases.{liveB, liveC, bothRuns, endsFrom, shownKey, shownValue, placesIn, outcomeOf, outcomesFrom, outcomes}
 use Rattle.cursor.specs.ReferenceCases.{given, expected, call, roomForAll, noRoomFirst, referenceCases}
 
 pub reference-cases-hold : map outcomes referenceCases ≡ map expected referenceCases
 unfolding word pastBy compareKeys partTo bodyAt headBy headAt soughtBy soughtHead soughtFrom searchIn risingEnds goodRuns goodPlace goodFrom
-    goodPlaces newCheck nextCheck afterSearch newFrom newBy newOf fitted answerBy placesBy over putBy movedBy nextBy nextOf nextKey nextValue
-    againstLowest lookBy lookHead lookAt lowestKey lowestValue shows change passFrom passOf startOf isHidden leftAt sumTo left settleFrom
+    goodPlaces newCheck nextCheck afterSearch newFrom newOf fitted answerBy placesBy over putBy movedBy nextOf nextKey nextValue
+    againstLowest lookBy lookHead lookAt lowestKey lowestValue shows change passFrom passOf startOf isHidden leftAt sumTo bytesAhead settleFrom
     settled liveB liveC bothRuns flatten endsFrom shownKey shownValue placesIn outcomeOf outcomesFrom outcomes given expected call
     roomForAll noRoomFirst referenceCases
 reference-cases-hold = refl

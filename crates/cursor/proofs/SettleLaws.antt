@@ -8,7 +8,7 @@ use lib.ListN.{length}
 use Rattle.types.specs.Build.{fileCount}
 use Rattle.run.specs.declared.bound.Bound.{Bound}
 use Rattle.cursor.specs.Pass.{passOf}
-use Rattle.cursor.specs.Settle.{isHidden, left, settleFrom}
+use Rattle.cursor.specs.Settle.{isHidden, bytesAhead, settleFrom}
 use Rattle.cursor.specs.declared.pass.Pass.{Pass}
 use Rattle.cursor.specs.declared.place.RunPlace.{RunPlace}
 use Rattle.cursor.proofs.FallLaws.{falls}
@@ -16,7 +16,7 @@ use Rattle.cursor.proofs.FallLaws.{falls}
 -- the passes from these places on come to this answer, with passes enough
 abbrev pub Rest : List ℕ → List ℕ → Bound → List ℕ → List RunPlace → Pass → Type 0
 Rest bytes ends bound upper places answer =
-    (more : ℕ) × (left ends places ≤ more) × (settleFrom bytes ends bound upper more places ≡ answer)
+    (more : ℕ) × (bytesAhead ends places ≤ more) × (settleFrom bytes ends bound upper more places ≡ answer)
 
 module _ (bytes ends : List ℕ) (bound : Bound) (upper : List ℕ) (places : List RunPlace) (answer p : Pass)
     (is : p ≡ passOf bytes ends bound upper places) (rest : Rest bytes ends bound upper places answer) where
@@ -30,12 +30,12 @@ module _ (bytes ends : List ℕ) (bound : Bound) (upper : List ℕ) (places : Li
   settle-ends h = is ∙ sym (live-by (rest .0) (rw is at h)) ∙ rest .2
 
   module _ (few : length ends ≤ fileCount) (h : isHidden (p .lowest) ≡ true) where
-    pub settle-less : left ends (p .stepped) < left ends places
+    pub settle-less : bytesAhead ends (p .stepped) < bytesAhead ends places
     settle-less = rw is (falls bytes ends bound upper places few (rw is at h))
 
-    again-by : (more : ℕ) → left ends places ≤ more → settleFrom bytes ends bound upper more places ≡ answer
+    again-by : (more : ℕ) → bytesAhead ends places ≤ more → settleFrom bytes ends bound upper more places ≡ answer
         → isHidden (passOf bytes ends bound upper places .lowest) ≡ true
-        → left ends (passOf bytes ends bound upper places .stepped) < left ends places
+        → bytesAhead ends (passOf bytes ends bound upper places .stepped) < bytesAhead ends places
         → Rest bytes ends bound upper (passOf bytes ends bound upper places .stepped) answer
     unfolding settleFrom
     again-by zero m e t l = absurd (omega arith)

@@ -11,7 +11,7 @@ use Rattle.run.specs.Bounds.{isPast}
 use Rattle.run.specs.Items.{Item, itemIn, Reads, end, more, Below, Rising}
 use Rattle.keys.specs.Keys.{compareKeys}
 use Rattle.run.specs.Records.{headAt, keyIn}
-use Rattle.run.specs.Search.{soughtBy, soughtHead, soughtFrom, searchIn}
+use Rattle.run.specs.Search.{soughtBy, soughtFrom, searchIn}
 use Rattle.run.specs.declared.bound.Bound.{Bound}
 use Rattle.run.specs.declared.bound.Bound.the-variants.{Unbounded, Included, Excluded}
 use Rattle.keys.specs.declared.order.Ordering.{Ordering}
@@ -21,6 +21,8 @@ use Rattle.run.specs.declared.record.Head.the-variants as head
 use Rattle.run.specs.declared.search.Sought.{Sought}
 use Rattle.run.specs.declared.search.Sought.the-variants as sought
 use Rattle.run.proofs.FitLaws.{head-lies}
+use Rattle.run.proofs.ItemLaws.{rising-first, rising-rest}
+use Rattle.run.proofs.SearchLaws.{searchIn-unbounded, searchIn-included, searchIn-excluded, soughtFrom-end, soughtFrom-record, soughtBy-less, soughtBy-equal, soughtBy-greater}
 use Rattle.cursor.specs.Pass.{lookBy, lookHead, lookAt}
 use Rattle.cursor.specs.Union.{kept}
 use Rattle.cursor.specs.declared.look.Look.the-variants as look
@@ -101,13 +103,13 @@ module _ (run : List ℕ) (bound : Bound) (upper : List ℕ) where
 
   -- a run that reads to its end shows the items within the bound
   pub reads-shows : (at : ℕ) (items : List Item) → Reads run at items → Rising items → Shows (At at) (kept (within bound upper) items)
-  unfolding kept Rising
+  unfolding kept
   reads-shows at _ (end g) h = ended g
-  reads-shows at _ (more {items = items} r g s) h = by _ refl (reads-shows (r .next) items s (h .1))
+  reads-shows at _ (more {items = items} r g s) h = by _ refl (reads-shows (r .next) items s (rising-rest (itemIn run r) items h))
     where
       by : (t : Bool) → isPast bound upper (keyIn run r) ≡ t → Shows (At (r .next)) (kept (within bound upper) items)
           → Shows (At at) (cond (not t) (itemIn run r ∷ kept (within bound upper) items) (kept (within bound upper) items))
-      by true t k = rw (kept-past bound upper (keyIn run r) items t (h .0)) (past r g t)
+      by true t k = rw (kept-past bound upper (keyIn run r) items t (rising-first (itemIn run r) items h)) (past r g t)
       by false t k = item r g t k
 
 -- ---- the search for a lower bound
@@ -133,32 +135,42 @@ module _ (run : List ℕ) (lower : List ℕ) where
         → (o : Ordering) → compareKeys (keyIn run r) lower ≡ o
         → Starts run (cond (reachesBy bound o) (itemIn run r ∷ kept (reaches bound lower) items) (kept (reaches bound lower) items))
         (soughtBy o bound at (r .next) later)
-    unfolding soughtBy reachesBy
+    unfolding reachesBy
     starts-by Unbounded n k o q = absurd (n refl)
-    starts-by Included n k Less q = k
-    starts-by Included n k Equal q = taken-here Included (λ e. let z : Less ≡ Equal = sym e ∙ q in let y : _≡_ {A = ℕ} 0 1 = cc in omega arith)
-    starts-by Included n k Greater q = taken-here Included (λ e. let z : Less ≡ Greater = sym e ∙ q in let y : _≡_ {A = ℕ} 0 1 = cc in omega arith)
-    starts-by Excluded n k Less q = k
+    starts-by Included n k Less q = rw (soughtBy-less Included at (r .next) later) k
+    starts-by Included n k Equal q =
+        rw (soughtBy-equal Included at (r .next) later)
+        (taken-here Included (λ e. let z : Less ≡ Equal = sym e ∙ q in let y : _≡_ {A = ℕ} 0 1 = cc in omega arith))
+    starts-by Included n k Greater q =
+        rw (soughtBy-greater Included at (r .next) later)
+        (taken-here Included (λ e. let z : Less ≡ Greater = sym e ∙ q in let y : _≡_ {A = ℕ} 0 1 = cc in omega arith))
+    starts-by Excluded n k Less q = rw (soughtBy-less Excluded at (r .next) later) k
     starts-by Excluded n k Equal q =
         let l = head-lies run at r g in
+        rw (soughtBy-equal Excluded at (r .next) later)
         (l .end, rw (kept-reached Excluded lower (keyIn run r) items (λ e. let z : Less ≡ Equal = sym e ∙ q in let y : _≡_ {A = ℕ} 0 1 = cc in omega arith) b) s)
-    starts-by Excluded n k Greater q = taken-here Excluded (λ e. let z : Less ≡ Greater = sym e ∙ q in let y : _≡_ {A = ℕ} 0 1 = cc in omega arith)
+    starts-by Excluded n k Greater q =
+        rw (soughtBy-greater Excluded at (r .next) later)
+        (taken-here Excluded (λ e. let z : Less ≡ Greater = sym e ∙ q in let y : _≡_ {A = ℕ} 0 1 = cc in omega arith))
 
   starts-from : (bound : Bound) → (bound ≡ Unbounded → ⊥) → (at : ℕ) (items : List Item) → Reads run at items → Rising items
       → (heads : ℕ) → length run - at < heads → Starts run (kept (reaches bound lower) items) (soughtFrom heads run bound lower at)
-  unfolding soughtFrom soughtHead kept Rising
+  unfolding kept
   starts-from bound n at _ (end g) h zero m = absurd (omega arith)
-  starts-from bound n at _ (end g) h (suc heads) m = rw g refl
+  starts-from bound n at _ (end g) h (suc heads) m = rw (soughtFrom-end run lower heads bound at g) refl
   starts-from bound n at _ (more {items = items} r g s) h zero m = absurd (omega arith)
   starts-from bound n at _ (more {items = items} r g s) h (suc heads) m =
       let l = head-lies run at r g in
-      rw g
-      (starts-by at r items g s (h .0) (λ next. soughtFrom heads run bound lower next) bound n
-      (starts-from bound n (r .next) items s (h .1) heads (omega arith)) _ refl)
+      rw (soughtFrom-record run lower heads bound at r g)
+      (starts-by at r items g s (rising-first (itemIn run r) items h) (λ next. soughtFrom heads run bound lower next) bound n
+      (starts-from bound n (r .next) items s (rising-rest (itemIn run r) items h) heads (omega arith)) _ refl)
 
   -- a run of rising keys starts at the first item that the bound takes
   pub starts : (bound : Bound) (items : List Item) → Reads run 0 items → Rising items → Starts run (kept (reaches bound lower) items) (searchIn run bound lower)
-  unfolding searchIn
-  starts Unbounded items s h = (omega arith, rw (kept-unbounded lower items) s)
-  starts Included items s h = starts-from Included (λ e. let y : _≡_ {A = ℕ} 0 1 = cc in omega arith) 0 items s h (suc (length run)) (omega arith)
-  starts Excluded items s h = starts-from Excluded (λ e. let y : _≡_ {A = ℕ} 0 1 = cc in omega arith) 0 items s h (suc (length run)) (omega arith)
+  starts Unbounded items s h = rw (searchIn-unbounded run lower) (omega arith, rw (kept-unbounded lower items) s)
+  starts Included items s h =
+      rw (searchIn-included run lower)
+      (starts-from Included (λ e. let y : _≡_ {A = ℕ} 0 1 = cc in omega arith) 0 items s h (suc (length run)) (omega arith))
+  starts Excluded items s h =
+      rw (searchIn-excluded run lower)
+      (starts-from Excluded (λ e. let y : _≡_ {A = ℕ} 0 1 = cc in omega arith) 0 items s h (suc (length run)) (omega arith))

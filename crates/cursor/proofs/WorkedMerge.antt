@@ -21,11 +21,11 @@ use Rattle.run.specs.Records as records
 use Rattle.run.specs.Search.{soughtBy, soughtHead, soughtFrom, searchIn}
 use Rattle.cursor.specs.Checks.{risingEnds, goodRuns, goodPlace, goodFrom, goodPlaces, newCheck, nextCheck}
 use Rattle.cursor.specs.Merged.{between, Pair, Hands, Merged}
-use Rattle.cursor.specs.New.{afterSearch, newFrom, newBy, newOf}
-use Rattle.cursor.specs.Next.{fitted, answerBy, placesBy, putBy, movedBy, nextBy, nextOf, nextKey, nextValue}
+use Rattle.cursor.specs.New.{afterSearch, newFrom, newOf}
+use Rattle.cursor.specs.Next.{fitted, answerBy, placesBy, putBy, movedBy, nextOf, nextKey, nextValue}
 use Rattle.cursor.specs.Pass.{againstLowest, lookBy, lookHead, lookAt, lowestKey, lowestValue, shows, change, passFrom, passOf}
 use Rattle.cursor.specs.Runs.{startOf, runOf}
-use Rattle.cursor.specs.Settle.{isHidden, leftAt, sumTo, left, settleFrom, settled}
+use Rattle.cursor.specs.Settle.{isHidden, leftAt, sumTo, bytesAhead, settleFrom, settled}
 use Rattle.cursor.specs.ReferenceCases.{liveB, liveC, bothRuns, endsFrom}
 use Rattle.cursor.specs.WorkedMerge.{workedBytes, workedEnds, workedItems, keyBuffer, valueBuffer, workedPairs}
 use Rattle.cursor.proofs.MergeClaims.{merge-hands, merge-exact}
@@ -36,17 +36,32 @@ good : goodRuns (length workedBytes) workedEnds ≡ true
 unfolding risingEnds goodRuns liveB liveC flatten endsFrom bothRuns workedBytes workedEnds
 good = refl
 
-reads : (i : ℕ) → i < length workedEnds → Reads (runOf workedBytes workedEnds i) 0 (workedItems i)
+reads-0 : Reads (runOf workedBytes workedEnds 0) 0 (workedItems 0)
 unfolding word partTo bodyAt headBy headAt startOf liveB liveC flatten endsFrom bothRuns workedBytes workedEnds workedItems
-reads zero b = Reads.more (records.recordWith false 6 1 1) refl (Reads.more (records.recordWith false 14 1 1) refl (Reads.end refl))
-reads (suc zero) b = Reads.more (records.recordWith true 6 1 0) refl (Reads.more (records.recordWith false 13 1 1) refl (Reads.end refl))
-reads (suc (suc i)) b = let few : suc (suc i) < 2 = b in absurd (omega arith)
+reads-0 = Reads.more (records.recordWith false 6 1 1) refl (Reads.more (records.recordWith false 14 1 1) refl (Reads.end refl))
+
+reads-1 : Reads (runOf workedBytes workedEnds 1) 0 (workedItems 1)
+unfolding word partTo bodyAt headBy headAt startOf liveB liveC flatten endsFrom bothRuns workedBytes workedEnds workedItems
+reads-1 = Reads.more (records.recordWith true 6 1 0) refl (Reads.more (records.recordWith false 13 1 1) refl (Reads.end refl))
+
+rises : Rising (workedItems 0) × Rising (workedItems 1)
+unfolding compareKeys Below Rising workedItems
+rises = (((refl, tt), (tt, tt)), ((refl, tt), (tt, tt)))
+
+-- there are two runs
+two : (i : ℕ) → suc (suc i) < length workedEnds → ⊥
+unfolding liveB liveC flatten endsFrom bothRuns workedEnds
+two i b = let few : suc (suc i) < 2 = b in omega arith
+
+reads : (i : ℕ) → i < length workedEnds → Reads (runOf workedBytes workedEnds i) 0 (workedItems i)
+reads zero b = reads-0
+reads (suc zero) b = reads-1
+reads (suc (suc i)) b = absurd (two i b)
 
 rising : (i : ℕ) → i < length workedEnds → Rising (workedItems i)
-unfolding compareKeys Below Rising workedItems
-rising zero b = ((refl, tt), (tt, tt))
-rising (suc zero) b = ((refl, tt), (tt, tt))
-rising (suc (suc i)) b = tt
+rising zero b = rises .0
+rising (suc zero) b = rises .1
+rising (suc (suc i)) b = absurd (two i b)
 
 rooms : (maxKeySize ≤ length keyBuffer) × (maxValueSize ≤ length valueBuffer)
 unfolding keyBuffer valueBuffer
@@ -62,8 +77,8 @@ worked-hands = merge-hands workedBytes workedEnds good workedItems reads rising 
 -- a, which the newer run deletes, is left out
 handed : Hands workedBytes workedEnds Unbounded [] (newOf workedBytes workedEnds Unbounded [] .cursor) keyBuffer valueBuffer workedPairs
 unfolding word pastBy compareKeys partTo bodyAt headBy headAt soughtBy soughtHead soughtFrom searchIn risingEnds goodRuns goodPlace goodFrom
-    goodPlaces newCheck nextCheck afterSearch newFrom newBy newOf fitted answerBy placesBy over putBy movedBy nextBy nextOf nextKey nextValue
-    againstLowest lookBy lookHead lookAt lowestKey lowestValue shows change passFrom passOf startOf isHidden leftAt sumTo left settleFrom settled
+    goodPlaces newCheck nextCheck afterSearch newFrom newOf fitted answerBy placesBy over putBy movedBy nextOf nextKey nextValue
+    againstLowest lookBy lookHead lookAt lowestKey lowestValue shows change passFrom passOf startOf isHidden leftAt sumTo bytesAhead settleFrom settled
     liveB liveC flatten endsFrom bothRuns workedBytes workedEnds keyBuffer valueBuffer workedPairs
 handed = Hands.entry 1 1 refl (Hands.entry 1 1 refl (Hands.end refl))
 

@@ -1,16 +1,17 @@
 -- The checks before the work (docs/RULES.md, Order of checks, Ranges): 10 for the run ends, then 11 for the places.
 -- Assumes nothing.
-use mathlib.Core.Bool.{Bool, true, cond, _&&_}
+use mathlib.Core.Bool.{Bool, true, _&&_}
 use mathlib.Core.List.{List, [], _∷_}
 use Prim.Native.Nat.{ℕ, zero, suc, _-_}
 use lib.Dec.{ltb, leb}
 use lib.ListN.{length}
 use Rattle.types.specs.Build.{fileCount}
+use Rattle.types.specs.Checks.{asking}
 use Rattle.types.specs.declared.refusal.Refusal.the-variants.{BadRuns, BadState}
 use Rattle.cursor.specs.Places.{placeOf}
 use Rattle.cursor.specs.Runs.{startOf, endOf}
 use Rattle.types.specs.declared.refusal.Verdict.{Verdict}
-use Rattle.types.specs.declared.refusal.Verdict.the-variants.{Fine, Refused}
+use Rattle.types.specs.declared.refusal.Verdict.the-variants.{Fine}
 use Rattle.cursor.specs.declared.place.Place.{Place}
 use Rattle.cursor.specs.declared.place.Place.the-variants.{At, Gone}
 use Rattle.cursor.specs.declared.place.RunPlace.{RunPlace}
@@ -39,8 +40,8 @@ goodPlaces ends places = goodFrom ends places fileCount 0
 
 -- what is refused before a cursor is made
 unfoldable pub newCheck : ℕ → List ℕ → Verdict
-newCheck size ends = cond (goodRuns size ends) Fine (Refused BadRuns)
+newCheck size ends = asking (goodRuns size ends) BadRuns Fine
 
 -- what is refused before an entry is looked for
 unfoldable pub nextCheck : ℕ → List ℕ → List RunPlace → Verdict
-nextCheck size ends places = cond (goodRuns size ends) (cond (goodPlaces ends places) Fine (Refused BadState)) (Refused BadRuns)
+nextCheck size ends places = asking (goodRuns size ends) BadRuns (asking (goodPlaces ends places) BadState Fine)

@@ -3,6 +3,7 @@
 use mathlib.Core.List.{List}
 use Prim.Native.Nat.{ℕ, zero, suc}
 use lib.ListN.{length, set}
+use Rattle.types.specs.Checks.{refusedOr}
 use Rattle.types.specs.declared.refusal.Refusal.{Refusal}
 use Rattle.run.specs.Search.{searchIn}
 use Rattle.run.specs.declared.bound.Bound.{Bound}
@@ -13,8 +14,6 @@ use Rattle.cursor.specs.Places.{atPlace, allGone}
 use Rattle.cursor.specs.Runs.{runOf}
 use Rattle.types.specs.declared.answers.Outcome.the-variants.{Done, Refused}
 use Rattle.cursor.specs.declared.answers.NewCursor.{NewCursor}
-use Rattle.types.specs.declared.refusal.Verdict.{Verdict}
-use Rattle.types.specs.declared.refusal.Verdict.the-variants as check
 use Rattle.cursor.specs.declared.place.RunPlace.{RunPlace}
 
 abbrev pub refusedNew : Refusal → NewCursor
@@ -32,9 +31,5 @@ newFrom bytes ends bound lower zero i places = record { cursor = record { places
 newFrom bytes ends bound lower (suc count) i places =
     afterSearch (searchIn (runOf bytes ends i) bound lower) i places (λ p. newFrom bytes ends bound lower count (suc i) p)
 
-unfoldable pub newBy : Verdict → List ℕ → List ℕ → Bound → List ℕ → NewCursor
-newBy check.Fine bytes ends bound lower = newFrom bytes ends bound lower (length ends) 0 allGone
-newBy (check.Refused why) bytes ends bound lower = refusedNew why
-
 unfoldable pub newOf : List ℕ → List ℕ → Bound → List ℕ → NewCursor
-newOf bytes ends bound lower = newBy (newCheck (length bytes) ends) bytes ends bound lower
+newOf bytes ends bound lower = refusedOr (newCheck (length bytes) ends) refusedNew (newFrom bytes ends bound lower (length ends) 0 allGone)

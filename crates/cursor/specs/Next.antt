@@ -5,6 +5,8 @@ use mathlib.Core.List.{List}
 use Prim.Native.Nat.{ℕ}
 use lib.Dec.{ltb}
 use lib.ListN.{length}
+use Rattle.types.specs.Checks.{refusedOr}
+use Rattle.types.specs.declared.refusal.Refusal.{Refusal}
 use Rattle.types.specs.declared.refusal.Refusal.the-variants.{KeyBufferTooSmall, ValueBufferTooSmall}
 use Rattle.slices.specs.Patch.{over}
 use Rattle.run.specs.declared.bound.Bound.{Bound}
@@ -14,8 +16,6 @@ use Rattle.cursor.specs.Settle.{settled}
 use Rattle.cursor.specs.declared.answers.Moved.{Moved}
 use Rattle.cursor.specs.declared.answers.NextAnswer.{NextAnswer}
 use Rattle.cursor.specs.declared.answers.NextAnswer.the-variants.{End, Entry, Refused}
-use Rattle.types.specs.declared.refusal.Verdict.{Verdict}
-use Rattle.types.specs.declared.refusal.Verdict.the-variants as check
 use Rattle.cursor.specs.declared.look.Lowest.{Lowest}
 use Rattle.cursor.specs.declared.look.Lowest.the-variants as low
 use Rattle.cursor.specs.declared.pass.Pass.{Pass}
@@ -56,14 +56,18 @@ putBy (Refused why) bytes buffer = buffer
 unfoldable pub movedBy : NextAnswer → Pass → Moved
 movedBy answer p = record { cursor = record { places = placesBy answer p }; answer = answer }
 
-unfoldable pub nextBy : Verdict → List ℕ → List ℕ → Pass → ℕ → ℕ → Cursor → Moved
-nextBy check.Fine bytes ends p keyRoom valueRoom c = movedBy (entryAnswer bytes ends (p .lowest) keyRoom valueRoom) p
-nextBy (check.Refused why) bytes ends p keyRoom valueRoom c = record { cursor = c; answer = Refused why }
+-- what a settled pass comes to
+abbrev pub entryBy : List ℕ → List ℕ → ℕ → ℕ → Pass → Moved
+entryBy bytes ends keyRoom valueRoom p = movedBy (entryAnswer bytes ends (p .lowest) keyRoom valueRoom) p
+
+-- refused by a check, with the cursor as it was
+abbrev pub refusedNext : Cursor → Refusal → Moved
+refusedNext c why = record { cursor = c; answer = Refused why }
 
 -- the answer and the cursor, for buffers of keyRoom and valueRoom bytes
 unfoldable pub nextOf : List ℕ → List ℕ → Bound → List ℕ → Cursor → ℕ → ℕ → Moved
 nextOf bytes ends bound upper c keyRoom valueRoom =
-    nextBy (nextCheck (length bytes) ends (c .places)) bytes ends (settled bytes ends bound upper (c .places)) keyRoom valueRoom c
+    refusedOr (nextCheck (length bytes) ends (c .places)) (refusedNext c) (entryBy bytes ends keyRoom valueRoom (settled bytes ends bound upper (c .places)))
 
 -- the key buffer and the value buffer
 unfoldable pub nextKey : List ℕ → List ℕ → Bound → List ℕ → Cursor → List ℕ → List ℕ → List ℕ

@@ -25,8 +25,8 @@ unfoldable pub leftAt : ℕ → Place → ℕ
 leftAt size (At at) = size - at
 leftAt size Gone = 0
 
-abbrev pub leftOf : List ℕ → List RunPlace → ℕ → ℕ
-leftOf ends places i = leftAt (endOf ends i - startOf ends i) (placeOf places i)
+abbrev pub aheadIn : List ℕ → List RunPlace → ℕ → ℕ
+aheadIn ends places i = leftAt (endOf ends i - startOf ends i) (placeOf places i)
 
 -- the sum of f 0 to f (n - 1)
 unfoldable pub sumTo : ℕ → (ℕ → ℕ) → ℕ
@@ -34,8 +34,8 @@ sumTo zero f = 0
 sumTo (suc n) f = f n + sumTo n f
 
 -- the bytes that all runs have left
-unfoldable pub left : List ℕ → List RunPlace → ℕ
-left ends places = sumTo fileCount (leftOf ends places)
+unfoldable pub bytesAhead : List ℕ → List RunPlace → ℕ
+bytesAhead ends places = sumTo fileCount (aheadIn ends places)
 
 -- a pass, and after a deletion another one from where it stepped on to, with at most `more` further passes
 unfoldable pub settleFrom : List ℕ → List ℕ → Bound → List ℕ → ℕ → List RunPlace → Pass
@@ -47,4 +47,4 @@ settleFrom bytes ends bound upper (suc more) places =
 
 -- each pass over a deletion leaves fewer bytes, so as many more passes as bytes are enough
 unfoldable pub settled : List ℕ → List ℕ → Bound → List ℕ → List RunPlace → Pass
-settled bytes ends bound upper places = settleFrom bytes ends bound upper (left ends places) places
+settled bytes ends bound upper places = settleFrom bytes ends bound upper (bytesAhead ends places) places

@@ -67,8 +67,8 @@ pub(crate) fn check_new(size: usize, ends: &[usize]) -> Verdict
 pub(crate) fn check_next(size: usize, ends: &[usize], places: [RunPlace; FILE_COUNT]) -> Verdict
     ensures answers { λ r. ⌜ r ≡ nextCheck size (now (ends .entry)) places ⌝ }
 {
-    if !good_runs(size, ends) {
-        return Verdict::Refused(Refusal::BadRuns);
+    if let Verdict::Refused(why) = check_new(size, ends) {
+        return Verdict::Refused(why);
     }
     if good_places(places, ends) {
         Verdict::Fine

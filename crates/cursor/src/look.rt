@@ -5,7 +5,7 @@ use crate::place::Place;
 use keys::order::Ordering;
 use keys::order::compare;
 use run::bound::Bound;
-use run::bound::past;
+use run::bound::is_past;
 use run::record::Head;
 use run::record::Record;
 use run::record::head_at;
@@ -71,7 +71,7 @@ pub(crate) fn look_at(
         return without(head);
     };
     let key = record.key_in(run);
-    if past(key, bound, upper) {
+    if is_past(key, bound, upper) {
         return Look::Gone;
     }
     match against(lowest, low, key) {

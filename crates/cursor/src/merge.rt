@@ -10,7 +10,7 @@ use crate::checks::check_new;
 use crate::checks::check_next;
 use crate::deliver::deliver;
 use crate::pass::Pass;
-use crate::pass::settle;
+use crate::pass::settled;
 use crate::place::Cursor;
 use crate::place::GONE;
 use crate::place::Place;
@@ -104,7 +104,7 @@ impl Cursor {
                 answer: NextAnswer::Refused(why),
             };
         }
-        let pass = settle(places, runs, ends, bound, upper);
+        let pass = settled(places, runs, ends, bound, upper);
         let lowest = pass.lowest;
         let answer = deliver(lowest, runs, ends, key, value);
         let after = places_by(answer, pass);

@@ -93,7 +93,7 @@ fn pass_over(
 }
 
 // Whether the lowest key is a deletion.
-fn hidden(lowest: Lowest) -> bool
+fn is_hidden(lowest: Lowest) -> bool
     ensures answers { λ r. ⌜ r ≡ isHidden lowest ⌝ }
 {
     match lowest {
@@ -104,7 +104,7 @@ fn hidden(lowest: Lowest) -> bool
 }
 
 // Passes, each from where the one before stepped on to, until the lowest key is no deletion.
-pub(crate) fn settle(
+pub(crate) fn settled(
     start: [RunPlace; FILE_COUNT],
     runs: &[u8],
     ends: &[usize],
@@ -118,7 +118,7 @@ pub(crate) fn settle(
     loop {
         let pass = pass_over(places, runs, ends, bound, upper);
         let lowest = pass.lowest;
-        if !hidden(lowest) {
+        if !is_hidden(lowest) {
             return pass;
         }
         places = pass.stepped;

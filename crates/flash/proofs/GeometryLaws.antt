@@ -6,7 +6,7 @@ use Prim.Native.Nat.{ℕ, _+_, _*_, _%_, _≤_, _<_}
 use native.Mathlib.Omega.{arith}
 use lib.ListN.{length, length-take, length-drop}
 use borrow.Author.Tests.{eqb-true, leb-true, eq-eqb, le-leb}
-use Rattle.types.specs.Build.{pageSize}
+use Rattle.types.specs.Build.{pageSize, maxPageCount}
 use Rattle.types.proofs.TestLaws.{both-true}
 use Rattle.flash.specs.Geometry.{flashFine, wholePages, pageStart, pageFrom}
 
@@ -15,14 +15,14 @@ pub fine-whole : (n : ℕ) → flashFine n ≡ true → (n ≡ wholePages n * pa
 fine-whole n e =
     let u = both-true _ _ e in
     let l = both-true _ _ (u .0) in
-    let whole : n % 4096 ≡ 0 = eqb-true _ _ (l .0) in
-    let low : 4096 ≤ n = leb-true _ _ (l .1) in
+    let whole : n % pageSize ≡ 0 = eqb-true _ _ (l .0) in
+    let low : pageSize ≤ n = leb-true _ _ (l .1) in
     let high : n ≤ 1048576 = leb-true _ _ (u .1) in
     (omega arith, (omega arith, omega arith))
 
 pub whole-fine : (k : ℕ) → 1 ≤ k → k ≤ 256 → flashFine (k * pageSize) ≡ true
 whole-fine k low high =
-    rw (eq-eqb (k * 4096 % 4096) 0 (omega arith), le-leb 4096 (k * 4096) (omega arith), le-leb (k * 4096) 1048576 (omega arith))
+    rw (eq-eqb (k * pageSize % pageSize) 0 (omega arith), le-leb pageSize (k * pageSize) (omega arith), le-leb (k * pageSize) (maxPageCount * pageSize) (omega arith))
 
 -- a page that the flash has lies in it whole
 pub page-inside : (n p : ℕ) → p < wholePages n → pageStart p + pageSize ≤ n

@@ -8,7 +8,7 @@ use native.Mathlib.Omega.{arith}
 use lib.Dec.{leb}
 use lib.ListN.{length, take}
 use borrow.Author.Tests.{le-leb, lt-leb}
-use Rattle.types.specs.Build.{pageSize}
+use Rattle.types.specs.Build.{pageSize, align}
 use Rattle.types.proofs.TestLaws.{both-true, le-or-lt, leb-iff}
 use Rattle.flash.specs.Geometry.{pageStart}
 use Rattle.flash.specs.Operations.{Op, erase, store, opIf, liesOn, allLieOn, spentOn, allowedOn}
@@ -23,9 +23,9 @@ pub fits-store : (there : Bool) (at n room : ℕ) → room ≡ pageSize - at
     → (there && leb at pageSize && leb n room) ≡ (there && leb (at + n) pageSize)
 fits-store true at n room e =
     ⊎-elim
-    (λ (h : at ≤ 4096). rw (le-leb at 4096 h) (leb-iff n room (at + n) 4096 (λ q. omega arith) (λ q. omega arith)))
-    (λ (h : 4096 < at). rw (lt-leb at 4096 h) (rw (lt-leb (at + n) 4096 (omega arith))))
-    (le-or-lt at 4096)
+    (λ (h : at ≤ pageSize). rw (le-leb at pageSize h) (leb-iff n room (at + n) pageSize (λ q. omega arith) (λ q. omega arith)))
+    (λ (h : pageSize < at). rw (lt-leb at pageSize h) (rw (lt-leb (at + n) pageSize (omega arith))))
+    (le-or-lt at pageSize)
 fits-store false at n room e = refl
 
 -- ---- a list in two parts
@@ -85,14 +85,14 @@ on-flash p left false lies op xs ys r t e ran = ran-on p left [] xs ys r refl ra
 -- ---- on a flash of one page
 
 -- page 1 is not there, and four bytes at 4,094 pass the page's end: nothing is counted; at 4,092 they do not
-missing-page-refused : spentOn 4096 1 3 (store 0 (7 ∷ []) ∷ []) ≡ record { ok = false; left = 3 }
+missing-page-refused : spentOn pageSize 1 3 (store 0 (7 ∷ []) ∷ []) ≡ record { ok = false; left = 3 }
 missing-page-refused = refl
 
-missing-erase-refused : spentOn 4096 1 3 (erase 255 ∷ []) ≡ record { ok = false; left = 3 }
+missing-erase-refused : spentOn pageSize 1 3 (erase 255 ∷ []) ≡ record { ok = false; left = 3 }
 missing-erase-refused = refl
 
-long-store-refused : spentOn 4096 0 3 (store 4094 (7 ∷ 7 ∷ 7 ∷ 7 ∷ []) ∷ []) ≡ record { ok = false; left = 3 }
+long-store-refused : spentOn pageSize 0 3 (store (pageSize - 2) (7 ∷ 7 ∷ 7 ∷ 7 ∷ []) ∷ []) ≡ record { ok = false; left = 3 }
 long-store-refused = refl
 
-last-group-stored : spentOn 4096 0 3 (store 4092 (7 ∷ 7 ∷ 7 ∷ 7 ∷ []) ∷ []) ≡ record { ok = true; left = 2 }
+last-group-stored : spentOn pageSize 0 3 (store (pageSize - align) (7 ∷ 7 ∷ 7 ∷ 7 ∷ []) ∷ []) ≡ record { ok = true; left = 2 }
 last-group-stored = refl

@@ -18,7 +18,7 @@ use Rattle.slices.proofs.PatchLaws.{length-patch, patch-none, patch-all, patch-
 
 -- an operation is one patch within its page
 pub made-patch : (base : ℕ) (op : Op) (xs : List ℕ) → made base op xs ≡ patch (base + opAt op) (opBytes op) xs
-made-patch base (erase e) xs = ap (λ (b : ℕ). patch b (blank e 4096) xs) (sym (add-zero base))
+made-patch base (erase e) xs = ap (λ (b : ℕ). patch b (blank e pageSize) xs) (sym (add-zero base))
 made-patch base (store at bytes) xs = refl
 
 -- it stays in its page, or puts nothing
@@ -26,9 +26,9 @@ pub op-within : (op : Op) → (opAt op + length (opBytes op) ≤ pageSize) ⊎ (
 op-within (erase e) = inl (rw length-blank (omega arith))
 op-within (store at bytes) =
     ⊎-elim
-    (λ (h : at ≤ 4096). inl (rw length-take (omega arith)))
-    (λ (h : 4096 < at). inr (let z : 4096 - at ≡ 0 = omega arith in rw z))
-    (le-or-lt at 4096)
+    (λ (h : at ≤ pageSize). inl (rw length-take (omega arith)))
+    (λ (h : pageSize < at). inr (let z : pageSize - at ≡ 0 = omega arith in rw z))
+    (le-or-lt at pageSize)
 
 -- ---- the length
 
@@ -44,8 +44,8 @@ length-applied base (op ∷ ops) xs = length-applied base ops (made base op xs) 
 pub page-made : (base : ℕ) (op : Op) (xs : List ℕ) → pageFrom base (made base op xs) ≡ made 0 op (pageFrom base xs)
 page-made base op xs =
     ap (pageFrom base) (made-patch base op xs)
-    ∙ ap (take 4096) (drop-patch base (opAt op) (opBytes op) xs)
-    ∙ take-patch 4096 (opAt op) (opBytes op) (drop base xs)
+    ∙ ap (take pageSize) (drop-patch base (opAt op) (opBytes op) xs)
+    ∙ take-patch pageSize (opAt op) (opBytes op) (drop base xs)
     ∙ ap (λ (a : ℕ). patch a (opBytes op) (pageFrom base xs)) (sym (zero-add (opAt op)))
     ∙ sym (made-patch 0 op (pageFrom base xs))
 
@@ -56,8 +56,8 @@ page-applied base (op ∷ ops) xs = page-applied base ops (made base op xs) ∙ 
 -- an erased page reads as erased
 pub page-erased : (e base : ℕ) (xs : List ℕ) → base + pageSize ≤ length xs → pageFrom base (made base (erase e) xs) ≡ blank e pageSize
 page-erased e base xs h =
-    let l : length (pageFrom base xs) ≡ 4096 = length-page base xs h in
-    page-made base (erase e) xs ∙ patch-all (blank e 4096) (pageFrom base xs) (length-blank e 4096 ∙ sym l)
+    let l : length (pageFrom base xs) ≡ pageSize = length-page base xs h in
+    page-made base (erase e) xs ∙ patch-all (blank e pageSize) (pageFrom base xs) (length-blank e pageSize ∙ sym l)
 
 -- the bytes that an operation puts are there
 pub made-in : (base : ℕ) (op : Op) (xs : List ℕ) (i d : ℕ) → i < length (opBytes op) → base + opAt op + i < length xs → getD (made base op xs) (base + opAt op + i) d ≡ getD (opBytes op) i d
@@ -77,27 +77,27 @@ made-above base op xs i d h =
     (op-within op)
 
 -- ELSEWHERE: no byte outside the page changes
-pub elsewhere : (base : ℕ) (ops : List Op) (xs : List ℕ) (i d : ℕ) → (i < base) ⊎ (base + pageSize ≤ i) → getD (applied base ops xs) i d ≡ getD xs i d
-elsewhere base [] xs i d o = refl
-elsewhere base (op ∷ ops) xs i d o =
-    elsewhere base ops (made base op xs) i d o ∙ ⊎-elim (λ b. made-below base op xs i d b) (λ a. made-above base op xs i d a) o
+pub applied-outside : (base : ℕ) (ops : List Op) (xs : List ℕ) (i d : ℕ) → (i < base) ⊎ (base + pageSize ≤ i) → getD (applied base ops xs) i d ≡ getD xs i d
+applied-outside base [] xs i d o = refl
+applied-outside base (op ∷ ops) xs i d o =
+    applied-outside base ops (made base op xs) i d o ∙ ⊎-elim (λ b. made-below base op xs i d b) (λ a. made-above base op xs i d a) o
 
 made-other-page : (p q : ℕ) (op : Op) (xs : List ℕ) → (p ≡ q → ⊥) → pageOf q (made (pageStart p) op xs) ≡ pageOf q xs
 made-other-page p q op xs ne =
     ap (pageOf q) (made-patch (pageStart p) op xs)
     ∙ ⊎-elim
-    (λ w. ⊎-elim (λ lower. before lower) (λ higher. ap (take 4096) (drop-patch-above (q * 4096) (p * 4096 + opAt op) (opBytes op) xs (omega arith))) (le-or-lt q p))
-    (λ n. ap (λ (b : List ℕ). pageOf q (patch (p * 4096 + opAt op) b xs)) n ∙ ap (pageOf q) (patch-none (p * 4096 + opAt op) xs))
+    (λ w. ⊎-elim (λ lower. before lower) (λ higher. ap (take pageSize) (drop-patch-above (q * pageSize) (p * pageSize + opAt op) (opBytes op) xs (omega arith))) (le-or-lt q p))
+    (λ n. ap (λ (b : List ℕ). pageOf q (patch (p * pageSize + opAt op) b xs)) n ∙ ap (pageOf q) (patch-none (p * pageSize + opAt op) xs))
     (op-within op)
   where
-    before : q ≤ p → pageOf q (patch (p * 4096 + opAt op) (opBytes op) xs) ≡ pageOf q xs
+    before : q ≤ p → pageOf q (patch (p * pageSize + opAt op) (opBytes op) xs) ≡ pageOf q xs
     before lower =
         let strict : q < p = ⊎-elim (λ h. absurd (ne (let e : p ≡ q = omega arith in e))) (λ h. h) (le-or-lt p q) in
-        let at = p * 4096 + opAt op - q * 4096 in
-        let split : p * 4096 + opAt op ≡ q * 4096 + at = omega arith in
-        ap (λ (k : ℕ). take 4096 (drop (q * 4096) (patch k (opBytes op) xs))) split
-        ∙ ap (take 4096) (drop-patch (q * 4096) at (opBytes op) xs)
-        ∙ take-patch-below 4096 at (opBytes op) (drop (q * 4096) xs) (omega arith)
+        let at = p * pageSize + opAt op - q * pageSize in
+        let split : p * pageSize + opAt op ≡ q * pageSize + at = omega arith in
+        ap (λ (k : ℕ). take pageSize (drop (q * pageSize) (patch k (opBytes op) xs))) split
+        ∙ ap (take pageSize) (drop-patch (q * pageSize) at (opBytes op) xs)
+        ∙ take-patch-below pageSize at (opBytes op) (drop (q * pageSize) xs) (omega arith)
 
 -- every other page is as it was
 pub other-page : (p q : ℕ) (ops : List Op) (xs : List ℕ) → (p ≡ q → ⊥) → pageOf q (applied (pageStart p) ops xs) ≡ pageOf q xs

@@ -1,13 +1,14 @@
 -- The lent flash: 1 to 256 whole pages (docs/FORMAT.md, Numbers and flash). Assumes nothing.
-use mathlib.Core.Bool.{Bool, cond, _&&_}
+use mathlib.Core.Bool.{Bool, _&&_}
 use mathlib.Core.List.{List}
 use Prim.Native.Nat.{ℕ, _*_, _/_, _%_}
 use lib.Dec.{eqb, leb, ltb}
 use lib.ListN.{take, drop}
 use Rattle.types.specs.Build.{pageSize, maxPageCount}
+use Rattle.types.specs.Checks.{asking}
 use Rattle.types.specs.declared.refusal.Refusal.the-variants.{BadFlash}
 use Rattle.types.specs.declared.refusal.Verdict.{Verdict}
-use Rattle.types.specs.declared.refusal.Verdict.the-variants.{Fine, Refused}
+use Rattle.types.specs.declared.refusal.Verdict.the-variants.{Fine}
 
 -- whether n bytes are 1 to 256 whole pages
 abbrev pub flashFine : ℕ → Bool
@@ -15,7 +16,7 @@ flashFine n = eqb (n % pageSize) 0 && leb pageSize n && leb n (maxPageCount * pa
 
 -- a flash of n bytes is fine, or it is 5
 abbrev pub flashCheck : ℕ → Verdict
-flashCheck n = cond (flashFine n) Fine (Refused BadFlash)
+flashCheck n = asking (flashFine n) BadFlash Fine
 
 -- how many whole pages n bytes are
 abbrev pub wholePages : ℕ → ℕ

@@ -103,6 +103,12 @@ greater-less a b q = compare-turned a b ∙ ap turned q
 pub less-greater : (a b : List ℕ) → compareKeys a b ≡ Less → compareKeys b a ≡ Greater
 less-greater a b q = compare-turned a b ∙ ap turned q
 
+-- a key above one that is not below a third is above the third
+pub above-third : (a b c : List ℕ) → compareKeys a b ≡ Less → (o : Ordering) → compareKeys a c ≡ o → (o ≡ Less → ⊥) → compareKeys b c ≡ Greater
+above-third a b c q Less p n = absurd (n refl)
+above-third a b c q Equal p n = rw (← compare-equal a c p) (less-greater a b q)
+above-third a b c q Greater p n = less-greater c b (less-less c a b (greater-less a c p) q)
+
 -- ---- the order by itself
 
 abbrev pub isLess : Ordering → Bool

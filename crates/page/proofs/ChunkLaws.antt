@@ -23,47 +23,47 @@ use Rattle.page.proofs.BelowLaws.{field-below, field-above, long-below,
 module _ (page : List ℕ) (o : ℕ) where
   pub chunk-past : pageSize < o + chunkHeaderSize → chunkAt page o ≡ End
   unfolding chunkAt
-  chunk-past h = rw (lt-ltb 4096 (o + 8) h)
+  chunk-past h = rw (lt-ltb pageSize (o + 8) h)
 
   -- a header that is not all there
   pub chunk-short : length page < o + chunkHeaderSize → chunkAt page o ≡ End
   unfolding chunkAt
   chunk-short h =
-      ⊎-elim (λ room. rw (le-ltb 4096 (o + 8) room, lt-ltb (length page) (o + 8) h)) chunk-past (le-or-lt (o + 8) 4096)
+      ⊎-elim (λ room. rw (le-ltb pageSize (o + 8) room, lt-ltb (length page) (o + 8) h)) chunk-past (le-or-lt (o + 8) pageSize)
 
   pub chunk-unmarked : (field 2 page o ≡ chunkMagic → ⊥) → chunkAt page o ≡ End
   unfolding chunkAt
   chunk-unmarked n =
       ⊎-elim
       (λ room.
-      ⊎-elim (λ there. rw (le-ltb 4096 (o + 8) room, le-ltb (length page) (o + 8) there, ne-eqb (field 2 page o) chunkMagic n)) chunk-short
+      ⊎-elim (λ there. rw (le-ltb pageSize (o + 8) room, le-ltb (length page) (o + 8) there, ne-eqb (field 2 page o) chunkMagic n)) chunk-short
       (le-or-lt (o + 8) (length page)))
-      chunk-past (le-or-lt (o + 8) 4096)
+      chunk-past (le-or-lt (o + 8) pageSize)
 
   module _ (room : o + chunkHeaderSize ≤ pageSize) (there : o + chunkHeaderSize ≤ length page) (mark : field 2 page o ≡ chunkMagic) where
     pub chunk-marked : chunkAt page o ≡ chunkOf page o (field 2 page (o + 2)) (field 4 page (o + 4))
     unfolding chunkAt
-    chunk-marked = rw (le-ltb 4096 (o + 8) room, le-ltb (length page) (o + 8) there, eq-eqb (field 2 page o) chunkMagic mark)
+    chunk-marked = rw (le-ltb pageSize (o + 8) room, le-ltb (length page) (o + 8) there, eq-eqb (field 2 page o) chunkMagic mark)
 
     pub chunk-long : maxChunkSize < field 2 page (o + 2) → chunkAt page o ≡ Corrupted
-    chunk-long h = chunk-marked ∙ rw (lt-ltb 4076 (field 2 page (o + 2)) h)
+    chunk-long h = chunk-marked ∙ rw (lt-ltb maxChunkSize (field 2 page (o + 2)) h)
 
     pub chunk-over : field 2 page (o + 2) ≤ maxChunkSize → pageSize < o + chunkHeaderSize + field 2 page (o + 2) → chunkAt page o ≡ Corrupted
-    chunk-over small h = chunk-marked ∙ rw (le-ltb 4076 (field 2 page (o + 2)) small, lt-ltb 4096 (o + 8 + field 2 page (o + 2)) h)
+    chunk-over small h = chunk-marked ∙ rw (le-ltb maxChunkSize (field 2 page (o + 2)) small, lt-ltb pageSize (o + 8 + field 2 page (o + 2)) h)
 
     -- a payload that is not all there
     pub chunk-missing : field 2 page (o + 2) ≤ maxChunkSize → o + chunkHeaderSize + field 2 page (o + 2) ≤ pageSize
         → length page < o + chunkHeaderSize + field 2 page (o + 2) → chunkAt page o ≡ Corrupted
     chunk-missing small fits missing =
         let l = field 2 page (o + 2) in
-        chunk-marked ∙ rw (le-ltb 4076 l small, le-ltb 4096 (o + 8 + l) fits, lt-ltb (length page) (o + 8 + l) missing)
+        chunk-marked ∙ rw (le-ltb maxChunkSize l small, le-ltb pageSize (o + 8 + l) fits, lt-ltb (length page) (o + 8 + l) missing)
 
     pub chunk-whole : field 2 page (o + 2) ≤ maxChunkSize → o + chunkHeaderSize + field 2 page (o + 2) ≤ pageSize
         → o + chunkHeaderSize + field 2 page (o + 2) ≤ length page
         → chunkAt page o ≡ Chunk (field 2 page (o + 2)) (field 4 page (o + 4)) (nextOffset o (field 2 page (o + 2)))
     chunk-whole small fits whole =
         let l = field 2 page (o + 2) in
-        chunk-marked ∙ rw (le-ltb 4076 l small, le-ltb 4096 (o + 8 + l) fits, le-ltb (length page) (o + 8 + l) whole)
+        chunk-marked ∙ rw (le-ltb maxChunkSize l small, le-ltb pageSize (o + 8 + l) fits, le-ltb (length page) (o + 8 + l) whole)
 
 -- ---- and back
 
@@ -94,7 +94,7 @@ chunk-found page o len crc next e =
     let l = field 2 page (o + 2) in
     let end = o + 8 + l in
     let p =
-    passed (ltb 4096 (o + 8)) (ltb (length page) (o + 8)) (eqb (field 2 page o) chunkMagic) (ltb 4076 l) (ltb 4096 end) (ltb (length page) end)
+    passed (ltb pageSize (o + 8)) (ltb (length page) (o + 8)) (eqb (field 2 page o) chunkMagic) (ltb maxChunkSize l) (ltb pageSize end) (ltb (length page) end)
     l (field 4 page (o + 4)) (nextOffset o l) len crc next e in
     let f : l ≡ len = p .1 .0 in
     record {
@@ -102,8 +102,8 @@ chunk-found page o len crc next e =
       mark = eqb-true (field 2 page o) chunkMagic (p .0 .1 .0);
       long = f;
       sum = p .1 .1 .0;
-      small = rw f at (ltb-false 4076 l (p .0 .1 .1 .0));
-      fits = rw f at (ltb-false 4096 end (p .0 .1 .1 .1));
+      small = rw f at (ltb-false maxChunkSize l (p .0 .1 .1 .0));
+      fits = rw f at (ltb-false pageSize end (p .0 .1 .1 .1));
       after = sym (p .1 .1 .1) ∙ ap (nextOffset o) f;
     }
 
@@ -111,7 +111,7 @@ chunk-found page o len crc next e =
 pub next-up : (page : List ℕ) (o len crc next : ℕ) → chunkAt page o ≡ Chunk len crc next → (o + chunkHeaderSize + len ≤ next) × (next ≤ pageSize)
 next-up page o len crc next e =
     let f = chunk-found page o len crc next e in
-    let fits : o + 8 + len ≤ 4096 = f .fits in
+    let fits : o + 8 + len ≤ pageSize = f .fits in
     let after : next ≡ nextOffset o len = f .after in
     (omega arith, omega arith)
 
@@ -126,14 +126,14 @@ chunk-below o len crc next e p q c h a =
     let long : field 2 q (o + 2) ≡ len = field-below 2 (o + 2) e p q (omega arith) a ∙ f .long in
     let sum : field 4 q (o + 4) ≡ crc = field-below 4 (o + 4) e p q (omega arith) a ∙ f .sum in
     let whole : o + 8 + len ≤ length q = long-below (o + 8 + len) e p q h a (f .whole) in
-    let fits : o + 8 + len ≤ 4096 = f .fits in
+    let fits : o + 8 + len ≤ pageSize = f .fits in
     chunk-whole q o (omega arith) (omega arith) mark (rw long (f .small)) (rw long (f .fits)) (rw long whole) ∙ rw (long, sum, f .after)
 
 -- of an end the header's eight
 pub end-below : (o e : ℕ) (p q : List ℕ) → chunkAt p o ≡ End → o + chunkHeaderSize ≤ e → take e q ≡ take e p → chunkAt q o ≡ End
 end-below o e p q c h a =
     ⊎-elim
-    (λ (room : o + 8 ≤ 4096).
+    (λ (room : o + 8 ≤ pageSize).
     ⊎-elim
     (λ (there : o + 8 ≤ length p).
     chunk-unmarked q o
@@ -141,7 +141,7 @@ end-below o e p q c h a =
     (λ (short : length p < o + 8). chunk-short q o (short-below (o + 8) e p q h a short))
     (le-or-lt (o + 8) (length p)))
     (chunk-past q o)
-    (le-or-lt (o + 8) 4096)
+    (le-or-lt (o + 8) pageSize)
   where
     -- where a header is there and marked, what it says is no end
     no-end : (long over missing : Bool) (a b c : ℕ) → cond long Corrupted (cond over Corrupted (cond missing Corrupted (Chunk a b c))) ≡ End → ⊥
@@ -153,7 +153,7 @@ end-below o e p q c h a =
     marked-no-end : field 2 q o ≡ field 2 p o → o + chunkHeaderSize ≤ pageSize → o + chunkHeaderSize ≤ length p → field 2 q o ≡ chunkMagic → ⊥
     marked-no-end same room there m =
         let l = field 2 p (o + 2) in
-        no-end (ltb 4076 l) (ltb 4096 (o + 8 + l)) (ltb (length p) (o + 8 + l)) l (field 4 p (o + 4)) (nextOffset o l)
+        no-end (ltb maxChunkSize l) (ltb pageSize (o + 8 + l)) (ltb (length p) (o + 8 + l)) l (field 4 p (o + 4)) (nextOffset o l)
         (sym (chunk-marked p o room there (sym same ∙ m)) ∙ c)
 
 pub chunk-above : (s o : ℕ) (p q : List ℕ) → s ≤ o → drop s q ≡ drop s p → chunkAt q o ≡ chunkAt p o

@@ -4,7 +4,7 @@ use mathlib.Core.List.{List, [], _∷_}
 use Prim.Native.Nat.{ℕ, _+_, _*_, _%_, _≤_}
 use native.Mathlib.Omega.{arith}
 use lib.ListN.{length}
-use Rattle.types.specs.Build.{pageSize, align, pageHeaderSize, chunkHeaderSize, maxHeaderSize, maxChunkSize}
+use Rattle.types.specs.Build.{pageSize, align, pageHeaderSize, maxHeaderSize, chunkHeaderSize, maxChunkSize}
 use Rattle.page.specs.Chunks.{nextOffset, chunkAt}
 use Rattle.page.specs.Walks.{Chunk, walkFrom}
 use Rattle.page.specs.declared.chunk.Step.the-variants as step
@@ -63,7 +63,7 @@ laid-placed o (c ∷ cs) h l =
     let e = endOf next cs in
     let at : c .offset ≡ o = l .0 in
     let up : next + 8 * length cs ≤ e = end-up next cs in
-    let small : c .len ≤ 4076 = l .1 .0 in (
+    let small : c .len ≤ maxChunkSize = l .1 .0 in (
       record { group = rw at h; start = omega arith; small = small; whole = omega arith },
       all-imp (Placed next e) (Placed o e)
           (λ d p. record { group = p .group; start = omega (arith, p .start); small = p .small; whole = p .whole })
@@ -122,7 +122,7 @@ walk-ended page o e h =
 pub walk-placed : (page : List ℕ) (o : ℕ) → o % align ≡ 0 → o ≤ pageSize → All (Placed o pageSize) (walkFrom page o .chunks)
 walk-placed page o g h =
     let cs = walkFrom page o .chunks in
-    all-imp (Placed o (endOf o cs)) (Placed o 4096)
+    all-imp (Placed o (endOf o cs)) (Placed o pageSize)
     (λ c p. record { group = p .group; start = p .start; small = p .small; whole = omega (arith, p .whole, end-within o cs h (walk-laid page o)) })
     cs (laid-placed o cs g (walk-laid page o))
 

@@ -1,11 +1,12 @@
 pub mod BelowLaws
+pub mod CheckLaws
 pub mod ChunkLaws
 pub mod ErasedLaws
 pub mod HeaderLaws
 pub mod LaidLaws
 pub mod OntoLaws
 pub mod PutLaws
-pub mod ShortLaws
-pub mod SumLaws
 pub mod WalkLaws
-pub mod WalkTableLaws
+pub mod WalksHold
+pub mod WorkedMark
+pub mod WorkedShort

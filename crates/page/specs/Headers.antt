@@ -1,15 +1,16 @@
 -- The page header: magic u32, page number u32, the sum of the h bytes, then those bytes (docs/FORMAT.md, Pages).
 -- Assumes nothing.
-use mathlib.Core.Bool.{Bool, cond, _&&_}
+use mathlib.Core.Bool.{Bool, _&&_}
 use mathlib.Core.List.{List, _++_}
 use Prim.Native.Nat.{ℕ, _%_}
 use lib.Dec.{eqb, leb}
 use lib.ListN.{length, take, drop}
 use Rattle.types.specs.Build.{align, pageHeaderSize, maxHeaderSize}
 use Rattle.types.specs.Bytes.{bytesOf}
+use Rattle.types.specs.Checks.{asking}
 use Rattle.types.specs.declared.refusal.Refusal.the-variants.{BadHeader}
 use Rattle.types.specs.declared.refusal.Verdict.{Verdict}
-use Rattle.types.specs.declared.refusal.Verdict.the-variants.{Fine, Refused}
+use Rattle.types.specs.declared.refusal.Verdict.the-variants.{Fine}
 use Rattle.crc.specs.Published.{published}
 use Rattle.slices.specs.Fields.{field}
 
@@ -19,7 +20,7 @@ headerFine h = eqb (h % align) 0 && leb h maxHeaderSize
 
 -- h is fine, or it is 6
 abbrev pub headerCheck : ℕ → Verdict
-headerCheck h = cond (headerFine h) Fine (Refused BadHeader)
+headerCheck h = asking (headerFine h) BadHeader Fine
 
 -- the header of page p with the higher header's bytes
 unfoldable pub pageHeader : ℕ → ℕ → List ℕ → List ℕ

@@ -1,4 +1,5 @@
 pub mod Answers
+pub mod Checks
 pub mod Chunks
 pub mod Headers
 pub mod Walks

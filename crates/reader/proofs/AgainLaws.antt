@@ -6,15 +6,17 @@ use mathlib.Core.List.{List}
 use Prim.Native.Nat.{ℕ}
 use native.Mathlib.Omega.{arith}
 use lib.ListN.{length}
+use Rattle.types.specs.Checks.{refusedOr}
 use Rattle.types.specs.declared.page_id.PageID.{PageID}
 use Rattle.types.specs.declared.refusal.Refusal.{Refusal}
 use Rattle.types.specs.declared.refusal.Refusal.the-variants as row
 use Rattle.types.specs.declared.refusal.Verdict.{Verdict}
 use Rattle.types.specs.declared.refusal.Verdict.the-variants.{Fine, Refused}
 use Rattle.flash.specs.Geometry.{pageOf}
-use Rattle.reader.specs.Calls.{passageAfter, readOf, read, bytesAfter, laidOver, readBytes, passageOf, skip}
-use Rattle.reader.specs.Calls.{endTestAfter, tested, isAtEof, openingAfter, openingOf, opening, openPage, rehydrating, rehydrateFrom}
-use Rattle.reader.specs.Checks.{openCheck, readerCheck}
+use Rattle.page.specs.Checks.{openCheck}
+use Rattle.reader.specs.Calls.{refusedPassage, readOf, read, laidOver, readBytes, passageOf, skip}
+use Rattle.reader.specs.Calls.{refusedEndTest, tested, isAtEof, refusedOpening, openingOf, opening, openPage, rehydrating, rehydrateFrom}
+use Rattle.reader.specs.Checks.{readerCheck}
 use Rattle.reader.specs.Moves.{ready, skipped}
 use Rattle.reader.specs.States.{restored}
 use Rattle.reader.specs.declared.answers.Count.the-variants as count
@@ -33,17 +35,17 @@ module _ (r : PageReader) (flash : List ℕ) (w : Refusal) where
 
   -- a read is refused whatever its room, by the checks or on moving; and then is_at_eof is too
   pub read-refused-so : (room : ℕ) → read r flash room .answer ≡ count.Refused w → (room′ : ℕ) (buffer : List ℕ)
-      → (read r flash room′ ≡ record { answer = count.Refused w; reader = r })
-      × ((readBytes r flash buffer ≡ buffer) × (isAtEof r flash ≡ record { answer = endTest.Refused w; reader = r }))
+      → (read r flash room′ ≡ refusedPassage r w)
+      × ((readBytes r flash buffer ≡ buffer) × (isAtEof r flash ≡ refusedEndTest r w))
   unfolding read readBytes isAtEof
   read-refused-so room e room′ buffer = by (readerCheck (length flash) r) (ready (pageOf (r .page .0) flash) r) e
     where
       page : List ℕ
       page = pageOf (r .page .0) flash
 
-      by : (v : Verdict) (a : Arrived) → passageAfter v r (readOf page r room a) .answer ≡ count.Refused w
-          → (passageAfter v r (readOf page r room′ a) ≡ record { answer = count.Refused w; reader = r })
-          × ((bytesAfter v buffer (laidOver page buffer a) ≡ buffer) × (endTestAfter v r (tested r a) ≡ record { answer = endTest.Refused w; reader = r }))
+      by : (v : Verdict) (a : Arrived) → refusedOr v (refusedPassage r) (readOf page r room a) .answer ≡ count.Refused w
+          → (refusedOr v (refusedPassage r) (readOf page r room′ a) ≡ refusedPassage r w)
+          × ((refusedOr v (λ _. buffer) (laidOver page buffer a) ≡ buffer) × (refusedOr v (refusedEndTest r) (tested r a) ≡ refusedEndTest r w))
       by (Refused x) a e = let f : x ≡ w = cc in (rw f, (refl, rw f))
       by Fine (At s) e = let z : _≡_ {A = ℕ} 0 1 = cc in absurd (omega arith)
       by Fine Corrupted e = let f : row.Corrupted ≡ w = cc in (rw f, (refl, rw f))
@@ -62,7 +64,7 @@ module _ (r : PageReader) (flash : List ℕ) (w : Refusal) where
   unfolding skip
   skip-kept n e = by (readerCheck (length flash) r) (skipped (pageOf (r .page .0) flash) n r) e
     where
-      by : (v : Verdict) (p : Passed) → passageAfter v r (passageOf r n p) .answer ≡ count.Refused w → passageAfter v r (passageOf r n p) .reader ≡ r
+      by : (v : Verdict) (p : Passed) → refusedOr v (refusedPassage r) (passageOf r n p) .answer ≡ count.Refused w → refusedOr v (refusedPassage r) (passageOf r n p) .reader ≡ r
       by (Refused x) p e = refl
       by Fine (passed.To s left) e = let z : _≡_ {A = ℕ} 0 1 = cc in absurd (omega arith)
       by Fine passed.Corrupted e = refl
@@ -75,12 +77,12 @@ module _ (r : PageReader) (flash : List ℕ) (w : Refusal) where
       ended true e = let z : _≡_ {A = ℕ} 0 1 = cc in omega arith
       ended false e = let z : _≡_ {A = ℕ} 0 1 = cc in omega arith
 
-      by : (v : Verdict) (a : Arrived) → endTestAfter v r (tested r a) .answer ≡ endTest.Refused w → endTestAfter v r (tested r a) .reader ≡ r
+      by : (v : Verdict) (a : Arrived) → refusedOr v (refusedEndTest r) (tested r a) .answer ≡ endTest.Refused w → refusedOr v (refusedEndTest r) (tested r a) .reader ≡ r
       by (Refused x) a e = refl
       by Fine (At s) e = absurd (ended (s .ended) e)
       by Fine Corrupted e = refl
 
-  opening-kept : (v : Verdict) (a : Arrived) → openingAfter v r (openingOf r a) .answer ≡ outcome.Refused w → openingAfter v r (openingOf r a) .reader ≡ r
+  opening-kept : (v : Verdict) (a : Arrived) → refusedOr v (refusedOpening r) (openingOf r a) .answer ≡ outcome.Refused w → refusedOr v (refusedOpening r) (openingOf r a) .reader ≡ r
   opening-kept (Refused x) a e = refl
   opening-kept Fine (At s) e = let z : _≡_ {A = ℕ} 0 1 = cc in absurd (omega arith)
   opening-kept Fine Corrupted e = refl

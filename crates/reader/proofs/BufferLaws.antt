@@ -14,20 +14,22 @@ use Rattle.types.specs.declared.refusal.Verdict.{Verdict}
 use Rattle.types.specs.declared.refusal.Verdict.the-variants.{Fine, Refused}
 use Rattle.types.proofs.TestLaws.{decided, eq-or-ne, le-or-lt}
 use Rattle.flash.specs.Geometry.{pageOf}
+use Rattle.page.specs.Checks.{openCheck}
 use Rattle.page.specs.Chunks.{nextOffset, payloadAt, checkedAt}
 use Rattle.page.specs.Headers.{pageHeaderFine}
 use Rattle.page.specs.Walks.{Chunk, Walked, walkFrom}
 use Rattle.page.specs.declared.chunk.Step.{Step}
 use Rattle.page.specs.declared.chunk.Step.the-variants as step
+use Rattle.page.proofs.CheckLaws.{Inside, open-checked}
 use Rattle.page.proofs.LaidLaws.{All, endOf, end-within, walk-laid}
 use Rattle.reader.specs.Finds.{Found, Joined, NotEmpty, joined, nothingMore, andThen, reads, readAll, foundWith, walkFinds}
 use Rattle.reader.specs.Calls.{openingOf, openPage}
-use Rattle.reader.specs.Checks.{openCheck, readerCheck}
+use Rattle.reader.specs.Checks.{readerCheck}
 use Rattle.reader.specs.Moves.{arriving, moved, ready, restOf, past}
 use Rattle.reader.specs.States.{newReader, unread}
 use Rattle.reader.specs.declared.moves.Arrived.the-variants.{At, Corrupted}
 use Rattle.reader.specs.declared.page_reader.PageReader.{PageReader}
-use Rattle.reader.proofs.CheckLaws.{Inside, open-known, reader-known}
+use Rattle.reader.proofs.CheckLaws.{reader-checked}
 use Rattle.reader.proofs.MoveLaws.{apart, ready-ended, ready-in, ready-used, rest-in, rest-ended}
 use Rattle.reader.proofs.GoodLaws.{findsAt, finds-step}
 use Rattle.reader.proofs.FoundLaws.{on, on-range, on-fine, length-payload, reads-bad, reads-end, reads-some, chunk-in-walk, found-refused, found-wrong}
@@ -148,7 +150,7 @@ module _ (flash : List ℕ) (page : PageID) (inside : Inside (length flash) (pag
           let bytes = pageOf (page .0) flash in
           let o′ = nextOffset o len in
           let c = chunk-in-walk bytes o′ len′ crc′ next e (d .full) in
-          let fits : o′ + 8 + len′ ≤ 4096 = c .found .fits in
+          let fits : o′ + 8 + len′ ≤ pageSize = c .found .fits in
           let after : next ≡ nextOffset o′ len′ = c .found .after in
           let some : 1 ≤ len′ = c .some in
           let start : 12 ≤ o = d .start in
@@ -191,7 +193,7 @@ module _ (flash : List ℕ) (page : PageID) (inside : Inside (length flash) (pag
       let bytes = pageOf (page .0) flash in
       let q = on page true o 0 0 0 in
       ap joined
-      (reads-end flash q (on-fine flash page inside q refl (record { low = inside .low; chunk = λ e. absurd (apart refl e) })) 4096 buffers q (ready-ended bytes q refl) (rest-ended bytes q refl))
+      (reads-end flash q (on-fine flash page inside q refl (record { low = inside .low; chunk = λ e. absurd (apart refl e) })) pageSize buffers q (ready-ended bytes q refl) (rest-ended bytes q refl))
   opened-hands-out o g s w full buffers room r (step.Chunk len crc next) c =
       let bytes = pageOf (page .0) flash in
       let k = chunk-in-walk bytes o len crc next c full in
@@ -239,16 +241,16 @@ pub reads-remaining : (flash : List ℕ) (r : PageReader) → readerCheck (lengt
     → joined (reads (suc pageSize) buffers flash r) ≡ remaining (pageOf (r .page .0) flash) r
 reads-remaining flash r v full buffers room =
     let bytes = pageOf (r .page .0) flash in
-    let known = reader-known (length flash) r v in
+    let known = reader-checked (length flash) r v in
     ⊎-elim
     (λ (e : r .ended ≡ true).
-    ap joined (reads-end flash r v 4096 buffers r (ready-ended bytes r e) (rest-ended bytes r e)) ∙ joined-none Fine ∙ sym (remaining-ended bytes r e))
+    ap joined (reads-end flash r v pageSize buffers r (ready-ended bytes r e) (rest-ended bytes r e)) ∙ joined-none Fine ∙ sym (remaining-ended bytes r e))
     (λ (e : r .ended ≡ false).
     let c = known .range .chunk e in
-    let fits : r .offset + 8 + r .len ≤ 4096 = c .fits in
+    let fits : r .offset + 8 + r .len ≤ pageSize = c .fits in
     let within : r .position ≤ r .len = c .within in
     let next = nextOffset (r .offset) (r .len) in
-    let low : next ≤ 4096 = omega arith in
+    let low : next ≤ pageSize = omega arith in
     ap (λ (t : Bool). joined (reads 4097 buffers flash (on (r .page) t (r .offset) (r .len) (r .crc) (r .position)))) e
     ∙ hand-out flash (r .page) (known .flash) 4097 (r .offset) (r .len) (r .crc) (r .position) buffers
     (record { room = room; group = c .group; start = c .start; fits = fits; within = within; full = full e; enough = omega (arith, walk-total bytes next low) })
@@ -264,7 +266,7 @@ module _ (flash : List ℕ) (magic : ℕ) (page : PageID) (h : ℕ) where
       → joined (foundWith buffers flash magic page h) ≡ joined (walkFinds (pageOf (page .0) flash) (pageHeaderSize + h))
   unfolding foundWith openPage
   joined-is-walk v f full buffers room =
-      let k = open-known (length flash) h page v in
+      let k = open-checked (length flash) h page v in
       let group : h % 4 ≡ 0 = k .group in
       let small : h ≤ 64 = k .small in
       rw (v, f)

@@ -1,4 +1,4 @@
--- The checks before a call's work: one after the other, and what a call knows that has passed them. Assumes nothing.
+-- The range of a reader, and what a call knows that has passed its checks. Assumes nothing.
 use mathlib.Core.Path.{_≡_, refl}
 use mathlib.Core.Bool.{Bool, true, false, _&&_, _||_}
 use mathlib.Core.Logic.{⊎-elim}
@@ -6,43 +6,15 @@ use Prim.Native.Nat.{ℕ, _+_, _-_, _%_, _≤_, _<_}
 use native.Mathlib.Omega.{arith}
 use lib.Dec.{eqb, leb}
 use borrow.Author.Tests.{eqb-true, leb-true, ltb-true, eq-eqb, le-leb, lt-ltb, lt-leb}
-use Rattle.types.specs.Build.{pageSize, align, maxPageCount, maxHeaderSize, pageHeaderSize, chunkHeaderSize}
-use Rattle.types.specs.declared.page_id.PageID.{PageID}
-use Rattle.types.specs.declared.refusal.Refusal.{Refusal}
-use Rattle.types.specs.declared.refusal.Refusal.the-variants.{OutOfRange, BadFlash, BadHeader, BadState}
-use Rattle.types.specs.declared.refusal.Verdict.{Verdict}
-use Rattle.types.specs.declared.refusal.Verdict.the-variants.{Fine, Refused}
+use Rattle.types.specs.Build.{pageSize, align, maxPageCount, pageHeaderSize, chunkHeaderSize}
+use Rattle.types.specs.declared.refusal.Refusal.the-variants.{OutOfRange, BadFlash, BadState}
+use Rattle.types.specs.declared.refusal.Verdict.the-variants.{Fine}
+use Rattle.types.proofs.CheckLaws.{asking-fine}
 use Rattle.types.proofs.TestLaws.{both-true, le-or-lt}
-use Rattle.flash.specs.Geometry.{flashFine, wholePages, pageStart, hasPage}
-use Rattle.flash.proofs.GeometryLaws.{fine-whole, page-inside}
-use Rattle.page.specs.Headers.{headerFine}
-use Rattle.reader.specs.Checks.{chunkInRange, inRange, asking, openCheck, readerCheck}
+use Rattle.flash.specs.Geometry.{flashFine, wholePages, hasPage}
+use Rattle.page.proofs.CheckLaws.{Inside, inside}
+use Rattle.reader.specs.Checks.{chunkInRange, inRange, readerCheck}
 use Rattle.reader.specs.declared.page_reader.PageReader.{PageReader}
-
--- ---- one check, then the others
-
-module _ (test : Bool) (why : Refusal) where
-  pub asked-no : (w : Refusal) (later : Verdict) → asking test why Fine ≡ Refused w → asking test why later ≡ Refused w
-  asked-no w later e = by test e
-    where
-      by : (t : Bool) → asking t why Fine ≡ Refused w → asking t why later ≡ Refused w
-      by true e = let z : _≡_ {A = ℕ} 0 1 = cc in absurd (omega arith)
-      by false e = e
-
-  pub asked-yes : (later : Verdict) → asking test why Fine ≡ Fine → asking test why later ≡ later
-  asked-yes later e = by test e
-    where
-      by : (t : Bool) → asking t why Fine ≡ Fine → asking t why later ≡ later
-      by true e = refl
-      by false e = let z : _≡_ {A = ℕ} 0 1 = cc in absurd (omega arith)
-
-  -- a verdict that is fine has passed the check and those after it
-  pub asked-both : (later : Verdict) → asking test why later ≡ Fine → (test ≡ true) × (later ≡ Fine)
-  asked-both later e = by test e
-    where
-      by : (t : Bool) → asking t why later ≡ Fine → (t ≡ true) × (later ≡ Fine)
-      by true e = (refl, e)
-      by false e = let z : _≡_ {A = ℕ} 0 1 = cc in absurd (omega arith)
 
 -- ---- the range of a reader
 
@@ -66,27 +38,31 @@ chunk-known offset len position e =
 
 pub chunk-in : (offset len position : ℕ) → InChunk offset len position → chunkInRange offset len position ≡ true
 chunk-in offset len position k =
-    rw (eq-eqb (offset % 4) 0 (k .group), le-leb 12 offset (k .start), le-leb (offset + 8 + len) 4096 (k .fits), le-leb position len (k .within))
+    rw (eq-eqb (offset % 4) 0 (k .group), le-leb 12 offset (k .start), le-leb (offset + 8 + len) pageSize (k .fits), le-leb position len (k .within))
+
+-- the last offset at which a chunk's header has room
+abbrev pub lastStart : ℕ
+lastStart = pageSize - chunkHeaderSize
 
 -- the code's way to ask whether a payload ends within the page
-pub fits-apart : (offset len : ℕ) → leb (offset + chunkHeaderSize + len) pageSize ≡ (leb offset 4088 && leb len (4088 - offset))
+pub fits-apart : (offset len : ℕ) → leb (offset + chunkHeaderSize + len) pageSize ≡ (leb offset lastStart && leb len (lastStart - offset))
 fits-apart offset len =
     ⊎-elim
-    (λ (low : offset ≤ 4088).
+    (λ (low : offset ≤ lastStart).
     ⊎-elim
-    (λ (h : offset + 8 + len ≤ 4096).
-    rw (le-leb (offset + 8 + len) 4096 h, le-leb offset 4088 low, le-leb len (4088 - offset) (omega arith)))
-    (λ (h : 4096 < offset + 8 + len).
-    rw (lt-leb (offset + 8 + len) 4096 h, le-leb offset 4088 low, lt-leb len (4088 - offset) (omega arith)))
-    (le-or-lt (offset + 8 + len) 4096))
-    (λ (high : 4088 < offset).
-    rw (lt-leb (offset + 8 + len) 4096 (omega arith), lt-leb offset 4088 high))
-    (le-or-lt offset 4088)
+    (λ (h : offset + 8 + len ≤ pageSize).
+    rw (le-leb (offset + 8 + len) pageSize h, le-leb offset lastStart low, le-leb len (lastStart - offset) (omega arith)))
+    (λ (h : pageSize < offset + 8 + len).
+    rw (lt-leb (offset + 8 + len) pageSize h, le-leb offset lastStart low, lt-leb len (lastStart - offset) (omega arith)))
+    (le-or-lt (offset + 8 + len) pageSize))
+    (λ (high : lastStart < offset).
+    rw (lt-leb (offset + 8 + len) pageSize (omega arith), lt-leb offset lastStart high))
+    (le-or-lt offset lastStart)
 
-pub chunk-apart : (offset len position room : ℕ) → room ≡ 4088 - offset
-    → (eqb (offset % align) 0 && leb pageHeaderSize offset && leb offset 4088 && leb len room && leb position len) ≡ chunkInRange offset len position
+pub chunk-apart : (offset len position room : ℕ) → room ≡ lastStart - offset
+    → (eqb (offset % align) 0 && leb pageHeaderSize offset && leb offset lastStart && leb len room && leb position len) ≡ chunkInRange offset len position
 chunk-apart offset len position room e =
-    rw (e, fits-apart offset len) (again (eqb (offset % 4) 0 && leb 12 offset) (leb offset 4088) (leb len (4088 - offset)) (leb position len))
+    rw (e, fits-apart offset len) (again (eqb (offset % 4) 0 && leb 12 offset) (leb offset lastStart) (leb len (lastStart - offset)) (leb position len))
   where
     again : (a b c d : Bool) → (a && b && c && d) ≡ (a && (b && c) && d)
     again true b c d = refl
@@ -114,42 +90,16 @@ range-in r k = rw (lt-ltb (r .page .0) 256 (k .low)) (by (r .ended) refl)
 
 -- ---- what a call knows after its checks
 
--- page p lies in a flash of n bytes, and is one of the first 256
-pub record Inside (n p : ℕ) : Type 0 where
-  pub fine : flashFine n ≡ true
-  pub has : p < wholePages n
-  pub whole : pageStart p + pageSize ≤ n
-  pub low : p < maxPageCount
-
-inside : (n p : ℕ) → flashFine n ≡ true → hasPage n p ≡ true → Inside n p
-inside n p f e =
-    let has : p < wholePages n = ltb-true _ _ e in
-    record { fine = f; has = has; whole = page-inside n p has; low = omega (arith, fine-whole n f .1 .1) }
-
-pub record OpenKnown (n h : ℕ) (page : PageID) : Type 0 where
-  pub flash : Inside n (page .0)
-  pub group : h % align ≡ 0
-  pub small : h ≤ maxHeaderSize
-
-pub open-known : (n h : ℕ) (page : PageID) → openCheck n h page ≡ Fine → OpenKnown n h page
-unfolding openCheck
-open-known n h page e =
-    let a = asked-both (flashFine n) BadFlash _ e in
-    let b = asked-both (headerFine h) BadHeader _ (a .1) in
-    let c = asked-both (hasPage n (page .0)) OutOfRange _ (b .1) in
-    let k = both-true _ _ (b .0) in
-    record { flash = inside n (page .0) (a .0) (c .0); group = eqb-true _ _ (k .0); small = leb-true _ _ (k .1) }
-
-pub record ReaderKnown (n : ℕ) (r : PageReader) : Type 0 where
+pub record ReaderChecked (n : ℕ) (r : PageReader) : Type 0 where
   pub flash : Inside n (r .page .0)
   pub range : InRange r
 
-pub reader-known : (n : ℕ) (r : PageReader) → readerCheck n r ≡ Fine → ReaderKnown n r
+pub reader-checked : (n : ℕ) (r : PageReader) → readerCheck n r ≡ Fine → ReaderChecked n r
 unfolding readerCheck
-reader-known n r e =
-    let a = asked-both (flashFine n) BadFlash _ e in
-    let b = asked-both (inRange r) BadState _ (a .1) in
-    let c = asked-both (hasPage n (r .page .0)) OutOfRange _ (b .1) in
+reader-checked n r e =
+    let a = asking-fine (flashFine n) BadFlash _ e in
+    let b = asking-fine (inRange r) BadState _ (a .1) in
+    let c = asking-fine (hasPage n (r .page .0)) OutOfRange _ (b .1) in
     record { flash = inside n (r .page .0) (a .0) (c .0); range = range-known r (b .0) }
 
 -- the checks pass where each of their tests does

@@ -4,7 +4,7 @@ use mathlib.Core.Path.{_≡_, refl, sym, ap, ap₂, _∙_}
 use mathlib.Core.Bool.{Bool, true, false}
 use mathlib.Core.List.{List, [], _∷_, map}
 use Prim.Native.Nat.{ℕ, zero, suc, _+_, _-_, _%_, _≤_, _<_, min}
-use native.Mathlib.Nat.{not-suc-le-zero, le-of-suc-le-suc}
+use native.Mathlib.Nat.{not-suc-le-zero}
 use native.Mathlib.Omega.{arith}
 use lib.ListN.{length, take, length-take, length-drop}
 use lib.Seq.{take-all}
@@ -14,21 +14,24 @@ use Rattle.types.specs.declared.refusal.Refusal.{Refusal}
 use Rattle.types.specs.declared.refusal.Refusal.the-variants as row
 use Rattle.types.specs.declared.refusal.Verdict.the-variants.{Fine, Refused}
 use Rattle.flash.specs.Geometry.{pageStart, pageOf}
-use Rattle.slices.specs.Patch.{over, blank}
+use Rattle.slices.specs.Patch.{blank}
 use Rattle.flash.proofs.GeometryLaws.{length-page}
+use Rattle.slices.proofs.OverLaws.{take-over}
 use Rattle.slices.proofs.PatchLaws.{length-blank}
+use Rattle.page.specs.Checks.{openCheck}
 use Rattle.page.specs.Chunks.{nextOffset, chunkAt, payloadAt, checkedAt}
 use Rattle.page.specs.Headers.{pageHeaderFine}
 use Rattle.page.specs.Walks.{Walked, walkFrom}
 use Rattle.page.specs.declared.chunk.Step.{Step}
 use Rattle.page.specs.declared.chunk.Step.the-variants as step
 use Rattle.page.specs.declared.walk.Ending.the-variants as ending
+use Rattle.page.proofs.CheckLaws.{Inside, open-checked}
 use Rattle.page.proofs.ChunkLaws as chunks
 use Rattle.page.proofs.ChunkLaws.{chunk-found, checked-found}
 use Rattle.page.proofs.LaidLaws.{All, walk-count}
 use Rattle.page.proofs.WalkLaws.{walk-chunk}
-use Rattle.reader.specs.Calls.{read, readBytes, openingOf, openPage}
-use Rattle.reader.specs.Checks.{openCheck, readerCheck}
+use Rattle.reader.specs.Calls.{refusedPassage, read, readBytes, openingOf, openPage}
+use Rattle.reader.specs.Checks.{readerCheck}
 use Rattle.reader.specs.Finds.{NotEmpty, nothingMore, andThen, readOn, reads, readAll, foundWith, found, payloadOf, walkFinds}
 use Rattle.reader.specs.Moves.{arriving, moved, ready, restOf, past}
 use Rattle.reader.specs.States.{newReader, unread}
@@ -36,19 +39,12 @@ use Rattle.reader.specs.declared.answers.Count.the-variants as count
 use Rattle.reader.specs.declared.answers.Passage.{Passage}
 use Rattle.reader.specs.declared.moves.Arrived.the-variants.{At, Corrupted}
 use Rattle.reader.specs.declared.page_reader.PageReader.{PageReader}
-use Rattle.reader.proofs.CheckLaws.{Inside, InRange, reader-fine, open-known}
+use Rattle.reader.proofs.CheckLaws.{InRange, reader-fine}
 use Rattle.reader.proofs.GoodLaws.{Right, good-whole, findsAt, finds-step}
 use Rattle.reader.proofs.MoveLaws.{apart, ready-ended, ready-used, ready-in, rest-in, rest-ended}
 use Rattle.reader.proofs.ReadLaws.{read-bad, read-at}
 
 -- ---- one read of many
-
-take-over : (n : ℕ) (bytes xs : List ℕ) → n ≤ length bytes → n ≤ length xs → take n (over bytes xs) ≡ take n bytes
-unfolding over
-take-over zero bytes xs h k = refl
-take-over (suc n) [] xs h k = absurd (not-suc-le-zero h)
-take-over (suc n) (b ∷ bytes) [] h k = absurd (not-suc-le-zero k)
-take-over (suc n) (b ∷ bytes) (x ∷ xs) h k = ap (λ (l : List ℕ). b ∷ l) (take-over n bytes xs (le-of-suc-le-suc h) (le-of-suc-le-suc k))
 
 module _ (flash : List ℕ) (r : PageReader) (v : readerCheck (length flash) r ≡ Fine) (n : ℕ) (buffers : ℕ → List ℕ) where
   reads-as : (p : Passage) → p ≡ read r flash (length (buffers 0))
@@ -57,7 +53,7 @@ module _ (flash : List ℕ) (r : PageReader) (v : readerCheck (length flash) r �
   reads-as p e = rw e
 
   pub reads-bad : ready (pageOf (r .page .0) flash) r ≡ Corrupted → reads (suc n) buffers flash r ≡ nothingMore (Refused row.Corrupted)
-  reads-bad a = reads-as (record { answer = count.Refused row.Corrupted; reader = r }) (read-bad r flash v (buffers 0) a .0)
+  reads-bad a = reads-as (refusedPassage r row.Corrupted) (read-bad r flash v (buffers 0) a .0)
 
   pub reads-end : (s : PageReader) → ready (pageOf (r .page .0) flash) r ≡ At s → restOf (pageOf (r .page .0) flash) s ≡ []
       → reads (suc n) buffers flash r ≡ nothingMore Fine
@@ -114,7 +110,7 @@ module _ (flash : List ℕ) (page : PageID) (inside : Inside (length flash) (pag
 
   pub length-payload : (o len : ℕ) → o + chunkHeaderSize + len ≤ pageSize → length (payloadAt (pageOf (page .0) flash) o len) ≡ len
   length-payload o len h =
-      let l : length (pageOf (page .0) flash) ≡ 4096 = length-page (pageStart (page .0)) flash (inside .whole) in
+      let l : length (pageOf (page .0) flash) ≡ pageSize = length-page (pageStart (page .0)) flash (inside .whole) in
       rw (length-take, length-drop) (omega arith)
 
   -- n reads of a reader that is about to be at o, where n are enough
@@ -140,8 +136,8 @@ module _ (flash : List ℕ) (page : PageID) (inside : Inside (length flash) (pag
   says-step n ih o (step.Chunk len crc next) e t u a b c d a′ b′ c′ d′ k arrived g s full h =
       let bytes = pageOf (page .0) flash in
       let at = chunk-in-walk bytes o len crc next e full in
-      let fits : o + 8 + len ≤ 4096 = at .found .fits in
-      let small : len ≤ 4076 = at .found .small in
+      let fits : o + 8 + len ≤ pageSize = at .found .fits in
+      let small : len ≤ maxChunkSize = at .found .small in
       let after : next ≡ nextOffset o len = at .found .after in
       let some : 1 ≤ len = at .some in
       let count : length (walkFrom bytes o .chunks) ≡ suc (length (walkFrom bytes next .chunks)) = ap (λ (w : Walked). length (w .chunks)) (at .walked) in
@@ -149,7 +145,7 @@ module _ (flash : List ℕ) (page : PageID) (inside : Inside (length flash) (pag
       let z = on page false o len crc (0 + suc (len - 1)) in
       let rest-is : restOf bytes q ≡ payloadAt bytes o len = rest-in bytes q refl in
       let l : length (restOf bytes q) ≡ len = ap length rest-is ∙ length-payload o len fits in
-      let room : length (big 0) ≡ 4076 = length-blank 0 4076 in
+      let room : length (big 0) ≡ maxChunkSize = length-blank 0 maxChunkSize in
       let whole : take (suc (len - 1)) (restOf bytes q) ≡ payloadAt bytes o len = take-all (suc (len - 1)) (restOf bytes q) (omega arith) ∙ rest-is in
       let onward : ready bytes z ≡ arriving z next (checkedAt bytes next) =
       ready-used bytes z refl (omega arith) ∙ ap (λ (x : ℕ). arriving z x (checkedAt bytes x)) (sym after) in
@@ -189,7 +185,7 @@ module _ (flash : List ℕ) (magic : ℕ) (page : PageID) (h : ℕ) where
       → found flash magic page h ≡ walkFinds (pageOf (page .0) flash) (pageHeaderSize + h)
   unfolding found foundWith openPage
   found-is-walk v f full =
-      let k = open-known (length flash) h page v in
+      let k = open-checked (length flash) h page v in
       let group : h % 4 ≡ 0 = k .group in
       let small : h ≤ 64 = k .small in
       rw (v, f)

@@ -1,6 +1,7 @@
 pub mod AgainLaws
 pub mod AnswerLaws
 pub mod BufferLaws
+pub mod CallLaws
 pub mod CheckLaws
 pub mod FoundLaws
 pub mod GoodLaws

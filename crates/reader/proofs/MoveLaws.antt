@@ -8,7 +8,7 @@ use native.Mathlib.Omega.{arith}
 use lib.ListN.{length, take, drop, length-take, length-drop}
 use lib.Seq.{take-all}
 use borrow.Author.Tests.{eq-eqb, ne-eqb}
-use Rattle.types.specs.Build.{chunkHeaderSize}
+use Rattle.types.specs.Build.{pageSize, chunkHeaderSize}
 use Rattle.types.proofs.TestLaws.{decided, eq-or-ne}
 use Rattle.page.specs.Chunks.{nextOffset, payloadAt, checkedAt}
 use Rattle.page.specs.declared.chunk.Step.{Step}
@@ -105,7 +105,7 @@ arriving-whole page r o s k e =
     let f = chunk-found page o (s .len) (s .crc) (nextOffset o (s .len)) (checked-found page o (s .len) (s .crc) (nextOffset o (s .len)) (k .chunk e) .0) in
     let at : s .offset ≡ o = k .at in
     let start : s .position ≡ 0 = k .chunk-start e in
-    let fits : o + 8 + s .len ≤ 4096 = f .fits in
+    let fits : o + 8 + s .len ≤ pageSize = f .fits in
     (omega arith, omega arith)
 
 pub moved-known : (page : List ℕ) (r s : PageReader) → moved page r ≡ At s → Arriving page r (nextOffset (r .offset) (r .len)) s

@@ -5,19 +5,20 @@ use mathlib.Core.List.{List}
 use mathlib.Core.Logic.{⊎-elim}
 use Prim.Native.Nat.{ℕ, zero, suc, _+_, _-_, _%_, _≤_, _<_, min}
 use native.Mathlib.Omega.{arith}
-use lib.Dec.{eqb}
 use lib.ListN.{length}
 use Rattle.types.specs.Build.{pageHeaderSize, align, maxPageCount}
+use Rattle.types.specs.Checks.{refusedOr}
 use Rattle.types.specs.declared.page_id.PageID.{PageID}
 use Rattle.types.specs.declared.refusal.Verdict.{Verdict}
 use Rattle.types.specs.declared.refusal.Verdict.the-variants.{Fine, Refused}
 use Rattle.types.proofs.TestLaws.{decided, le-or-lt}
-use Rattle.crc.specs.Published.{published}
 use Rattle.flash.specs.Geometry.{pageOf}
-use Rattle.page.specs.Chunks.{nextOffset, payloadAt, checkedAt}
+use Rattle.page.specs.Checks.{openCheck}
+use Rattle.page.specs.Chunks.{nextOffset, payloadFine, checkedAt}
 use Rattle.page.specs.Headers.{pageHeaderFine}
-use Rattle.reader.specs.Calls.{passageAfter, read, readOf, skip, passageOf, isAtEof, endTestAfter, tested, openPage, openingAfter, openingOf, rehydrateFrom}
-use Rattle.reader.specs.Checks.{inRange, openCheck, readerCheck}
+use Rattle.page.proofs.CheckLaws.{open-checked}
+use Rattle.reader.specs.Calls.{refusedPassage, read, readOf, skip, passageOf, isAtEof, refusedEndTest, tested, openPage, refusedOpening, openingOf, rehydrateFrom}
+use Rattle.reader.specs.Checks.{inRange, readerCheck}
 use Rattle.reader.specs.Moves.{arriving, moved, ready, restOf, past, onward, skipBy, skipped}
 use Rattle.reader.specs.States.{newReader, unread, restored}
 use Rattle.types.specs.declared.answers.Outcome.the-variants as outcome
@@ -28,7 +29,7 @@ use Rattle.reader.specs.declared.moves.Arrived.the-variants.{At, Corrupt
 use Rattle.reader.specs.declared.moves.Passed.{Passed}
 use Rattle.reader.specs.declared.moves.Passed.the-variants as passed
 use Rattle.reader.specs.declared.page_reader.PageReader.{PageReader}
-use Rattle.reader.proofs.CheckLaws.{InRange, range-known, range-in, open-known, reader-known}
+use Rattle.reader.proofs.CheckLaws.{InRange, range-known, range-in, reader-checked}
 use Rattle.reader.proofs.MoveLaws.{Arriving, arriving-known, arriving-whole, moved-known, ready-known, rest-within}
 use Rattle.reader.proofs.SkipLaws.{by-ended, by-here, by-on}
 
@@ -104,7 +105,7 @@ module _ (page : List ℕ) where
 -- ---- the calls
 
 module _ (r : PageReader) (flash : List ℕ) (k : inRange r ≡ true) where
-  range-after : (v : Verdict) (work : Passage) → InRange (work .reader) → inRange (passageAfter v r work .reader) ≡ true
+  range-after : (v : Verdict) (work : Passage) → InRange (work .reader) → inRange (refusedOr v (refusedPassage r) work .reader) ≡ true
   range-after Fine work h = range-in (work .reader) h
   range-after (Refused w) work h = k
 
@@ -132,7 +133,7 @@ module _ (r : PageReader) (flash : List ℕ) (k : inRange r ≡ true) where
   unfolding isAtEof
   eof-in-range = by (readerCheck (length flash) r) (pageOf (r .page .0) flash) (ready (pageOf (r .page .0) flash) r) refl
     where
-      by : (v : Verdict) (page : List ℕ) (a : Arrived) → ready page r ≡ a → inRange (endTestAfter v r (tested r a) .reader) ≡ true
+      by : (v : Verdict) (page : List ℕ) (a : Arrived) → ready page r ≡ a → inRange (refusedOr v (refusedEndTest r) (tested r a) .reader) ≡ true
       by (Refused w) page a e = k
       by Fine page (At s) e = range-in s (ready-range page r s (range-known r k) e)
       by Fine page Corrupted e = k
@@ -148,13 +149,13 @@ open-in-range r flash magic page h e =
     bytes = pageOf (page .0) flash
 
     by : (v : Verdict) → openCheck (length flash) h page ≡ v → (t : Bool) (a : Arrived) → arriving (unread page) (12 + h) (checkedAt bytes (12 + h)) ≡ a
-        → openingAfter v r (openingOf r (cond t a Corrupted)) .answer ≡ outcome.Done
-        → inRange (openingAfter v r (openingOf r (cond t a Corrupted)) .reader) ≡ true
+        → refusedOr v (refusedOpening r) (openingOf r (cond t a Corrupted)) .answer ≡ outcome.Done
+        → inRange (refusedOr v (refusedOpening r) (openingOf r (cond t a Corrupted)) .reader) ≡ true
     by (Refused w) f t a g e = let z : _≡_ {A = ℕ} 0 1 = cc in absurd (omega arith)
     by Fine f false a g e = let z : _≡_ {A = ℕ} 0 1 = cc in absurd (omega arith)
     by Fine f true Corrupted g e = let z : _≡_ {A = ℕ} 0 1 = cc in absurd (omega arith)
     by Fine f true (At s) g e =
-        let o = open-known (length flash) h page f in
+        let o = open-checked (length flash) h page f in
         let group : h % 4 ≡ 0 = o .group in
         range-in s (arriving-range bytes (unread page) (12 + h) s (arriving-known bytes (unread page) (12 + h) s g) (o .flash .low) (omega arith) (omega arith))
 
@@ -162,11 +163,11 @@ pub rehydrate-in-range : (r : PageReader) (flash : List ℕ) (d : DehydratedPage
     → inRange (rehydrateFrom r flash d .reader) ≡ true
 unfolding rehydrateFrom
 rehydrate-in-range r flash d e =
-    by (readerCheck (length flash) (restored d)) refl (restored d .ended || eqb (published (payloadAt (pageOf (d .page .0) flash) (d .offset) (d .len))) (d .crc)) e
+    by (readerCheck (length flash) (restored d)) refl (restored d .ended || payloadFine (pageOf (d .page .0) flash) (d .offset) (d .len) (d .crc)) e
   where
     by : (v : Verdict) → readerCheck (length flash) (restored d) ≡ v → (t : Bool)
-        → openingAfter v r (openingOf r (cond t (At (restored d)) Corrupted)) .answer ≡ outcome.Done
-        → inRange (openingAfter v r (openingOf r (cond t (At (restored d)) Corrupted)) .reader) ≡ true
+        → refusedOr v (refusedOpening r) (openingOf r (cond t (At (restored d)) Corrupted)) .answer ≡ outcome.Done
+        → inRange (refusedOr v (refusedOpening r) (openingOf r (cond t (At (restored d)) Corrupted)) .reader) ≡ true
     by (Refused w) f t e = let z : _≡_ {A = ℕ} 0 1 = cc in absurd (omega arith)
     by Fine f false e = let z : _≡_ {A = ℕ} 0 1 = cc in absurd (omega arith)
-    by Fine f true e = range-in (restored d) (reader-known (length flash) (restored d) f .range)
+    by Fine f true e = range-in (restored d) (reader-checked (length flash) (restored d) f .range)

@@ -13,7 +13,7 @@ use Rattle.types.specs.declared.refusal.Verdict.the-variants.{Fine, Refused}
 use Rattle.types.proofs.TestLaws.{decided}
 use Rattle.flash.specs.Geometry.{pageOf}
 use Rattle.slices.specs.Patch.{over}
-use Rattle.reader.specs.Calls.{read, readBytes, skip, isAtEof}
+use Rattle.reader.specs.Calls.{refusedPassage, read, readBytes, skip, refusedEndTest, isAtEof}
 use Rattle.reader.specs.Checks.{readerCheck}
 use Rattle.reader.specs.Moves.{Whole, ready, restOf, past, skipped}
 use Rattle.reader.specs.declared.answers.Count.the-variants as count
@@ -23,28 +23,28 @@ use Rattle.reader.specs.declared.answers.Passage.{Passage}
 use Rattle.reader.specs.declared.moves.Arrived.the-variants.{At, Corrupted}
 use Rattle.reader.specs.declared.moves.Passed.the-variants as passed
 use Rattle.reader.specs.declared.page_reader.PageReader.{PageReader}
-use Rattle.reader.proofs.CheckLaws.{reader-known}
+use Rattle.reader.proofs.CheckLaws.{reader-checked}
 use Rattle.reader.proofs.MoveLaws.{ready-whole, ready-end-kept, rest-ended, rest-within}
 use Rattle.reader.proofs.SkipLaws.{skip-ended, skip-here}
 
 module _ (r : PageReader) (flash : List ℕ) where
   -- a reader that passed its checks is whole
   pub known-whole : readerCheck (length flash) r ≡ Fine → Whole r
-  known-whole v e = let k = reader-known (length flash) r v .range .chunk e in (k .fits, k .within)
+  known-whole v e = let k = reader-checked (length flash) r v .range .chunk e in (k .fits, k .within)
 
   -- ---- refused by a check
 
   module _ (w : Refusal) (v : readerCheck (length flash) r ≡ Refused w) where
     pub read-refused : (buffer : List ℕ)
-        → (_≡_ {A = Passage} (record { answer = count.Refused w; reader = r }) (read r flash (length buffer))) × (buffer ≡ readBytes r flash buffer)
+        → (refusedPassage r w ≡ read r flash (length buffer)) × (buffer ≡ readBytes r flash buffer)
     unfolding read readBytes
     read-refused buffer = (rw v, rw v)
 
-    pub skip-refused : (n : ℕ) → _≡_ {A = Passage} (record { answer = count.Refused w; reader = r }) (skip r flash n)
+    pub skip-refused : (n : ℕ) → refusedPassage r w ≡ skip r flash n
     unfolding skip
     skip-refused n = rw v
 
-    pub eof-refused : _≡_ {A = EndTested} (record { answer = endTest.Refused w; reader = r }) (isAtEof r flash)
+    pub eof-refused : refusedEndTest r w ≡ isAtEof r flash
     unfolding isAtEof
     eof-refused = rw v
 
@@ -52,7 +52,7 @@ module _ (r : PageReader) (flash : List ℕ) where
 
   module _ (v : readerCheck (length flash) r ≡ Fine) where
     pub read-bad : (buffer : List ℕ) → ready (pageOf (r .page .0) flash) r ≡ Corrupted
-        → (_≡_ {A = Passage} (record { answer = count.Refused row.Corrupted; reader = r }) (read r flash (length buffer))) × (buffer ≡ readBytes r flash buffer)
+        → (refusedPassage r row.Corrupted ≡ read r flash (length buffer)) × (buffer ≡ readBytes r flash buffer)
     unfolding read readBytes
     read-bad buffer a = (rw (v, a), rw (v, a))
 
@@ -64,7 +64,7 @@ module _ (r : PageReader) (flash : List ℕ) where
     read-at buffer s n a e = (rw e (rw (v, a)), rw (v, a))
 
     pub skip-spoilt : (n : ℕ) → skipped (pageOf (r .page .0) flash) n r ≡ passed.Corrupted
-        → _≡_ {A = Passage} (record { answer = count.Refused row.Corrupted; reader = r }) (skip r flash n)
+        → refusedPassage r row.Corrupted ≡ skip r flash n
     unfolding skip
     skip-spoilt n a = rw (v, a)
 
@@ -74,7 +74,7 @@ module _ (r : PageReader) (flash : List ℕ) where
     skip-to n left s a = rw (v, a)
 
     pub eof-bad : ready (pageOf (r .page .0) flash) r ≡ Corrupted
-        → _≡_ {A = EndTested} (record { answer = endTest.Refused row.Corrupted; reader = r }) (isAtEof r flash)
+        → refusedEndTest r row.Corrupted ≡ isAtEof r flash
     unfolding isAtEof
     eof-bad a = rw (v, a)
 

@@ -6,24 +6,25 @@ use mathlib.Core.List.{List, [], _∷_, _++_, append-assoc}
 use mathlib.Core.Logic.{⊎-elim}
 use Prim.Native.Nat.{ℕ, zero, suc, _+_, _-_, _≤_, min}
 use native.Mathlib.Omega.{arith}
-use lib.Dec.{eqb}
 use lib.ListN.{length, take, drop, length-take, length-drop}
 use Rattle.types.specs.Build.{pageHeaderSize}
+use Rattle.types.specs.Checks.{refusedOr}
 use Rattle.types.specs.declared.page_id.PageID.{PageID}
 use Rattle.types.specs.declared.refusal.Verdict.{Verdict}
 use Rattle.types.specs.declared.refusal.Verdict.the-variants.{Fine, Refused}
 use Rattle.types.proofs.TestLaws.{decided, le-or-lt}
-use Rattle.crc.specs.Published.{published}
 use Rattle.flash.specs.Geometry.{pageOf}
 use Rattle.slices.specs.Patch.{over}
-use Rattle.page.specs.Chunks.{nextOffset, payloadAt, checkedAt}
+use Rattle.slices.proofs.OverLaws.{over-parts}
+use Rattle.page.specs.Checks.{openCheck}
+use Rattle.page.specs.Chunks.{nextOffset, payloadAt, payloadFine, checkedAt}
 use Rattle.page.specs.Headers.{pageHeaderFine}
 use Rattle.page.specs.Walks.{Chunk, Walked, walkFrom}
 use Rattle.page.proofs.ChunkLaws.{checked-fine}
 use Rattle.page.proofs.WalkLaws.{walk-chunk}
-use Rattle.reader.specs.Calls.{passageAfter, readOf, laidOver, bytesAfter, passageOf, endTestAfter, tested, openingAfter, openingOf}
+use Rattle.reader.specs.Calls.{refusedPassage, readOf, laidOver, passageOf, refusedEndTest, tested, refusedOpening, openingOf}
 use Rattle.reader.specs.Calls.{read, readBytes, skip, isAtEof, openPage, rehydrateFrom}
-use Rattle.reader.specs.Checks.{openCheck, readerCheck}
+use Rattle.reader.specs.Checks.{readerCheck}
 use Rattle.reader.specs.Finds.{payloadOf, sumRight}
 use Rattle.reader.specs.Moves.{arriving, moved, ready, restOf, past, onward, skipBy, skipped}
 use Rattle.reader.specs.States.{unread, restored}
@@ -116,7 +117,7 @@ module _ (page : PageID) (bytes : List ℕ) (o : ℕ) where
   -- ---- after the checks of a call
 
   module _ (r : PageReader) (k : Stands page bytes o r) where
-    taken-stands : (room : ℕ) (v : Verdict) → Stands page bytes o (passageAfter v r (readOf bytes r room (ready bytes r)) .reader)
+    taken-stands : (room : ℕ) (v : Verdict) → Stands page bytes o (refusedOr v (refusedPassage r) (readOf bytes r room (ready bytes r)) .reader)
     taken-stands room (Refused w) = k
     taken-stands room Fine = by (ready bytes r) refl
       where
@@ -124,7 +125,7 @@ module _ (page : PageID) (bytes : List ℕ) (o : ℕ) where
         by (At s) e = ready-stands r s k e
         by Corrupted e = k
 
-    tested-stands : (v : Verdict) → Stands page bytes o (endTestAfter v r (tested r (ready bytes r)) .reader)
+    tested-stands : (v : Verdict) → Stands page bytes o (refusedOr v (refusedEndTest r) (tested r (ready bytes r)) .reader)
     tested-stands (Refused w) = k
     tested-stands Fine = by (ready bytes r) refl
       where
@@ -132,7 +133,7 @@ module _ (page : PageID) (bytes : List ℕ) (o : ℕ) where
         by (At s) e = ready-stands r s k e
         by Corrupted e = k
 
-    passed-stands : (n : ℕ) (v : Verdict) → Stands page bytes o (passageAfter v r (passageOf r n (skipped bytes n r)) .reader)
+    passed-stands : (n : ℕ) (v : Verdict) → Stands page bytes o (refusedOr v (refusedPassage r) (passageOf r n (skipped bytes n r)) .reader)
     unfolding skipped
     passed-stands n (Refused w) = k
     passed-stands n Fine = by (skipBy 513 bytes n r) (by-stands 513 n r k)
@@ -151,21 +152,21 @@ module _ (flash : List ℕ) (page : PageID) (o : ℕ) (r : PageReader) (k : Stan
   unfolding read
   read-stands room =
       let v = readerCheck (length flash) r in
-      subst (λ (b : List ℕ). Stands page (pageOf (page .0) flash) o (passageAfter v r (readOf b r room (ready b r)) .reader)) same-bytes
+      subst (λ (b : List ℕ). Stands page (pageOf (page .0) flash) o (refusedOr v (refusedPassage r) (readOf b r room (ready b r)) .reader)) same-bytes
       (taken-stands page (pageOf (page .0) flash) o r k room v)
 
   pub eof-stands : Stands page (pageOf (page .0) flash) o (isAtEof r flash .reader)
   unfolding isAtEof
   eof-stands =
       let v = readerCheck (length flash) r in
-      subst (λ (b : List ℕ). Stands page (pageOf (page .0) flash) o (endTestAfter v r (tested r (ready b r)) .reader)) same-bytes
+      subst (λ (b : List ℕ). Stands page (pageOf (page .0) flash) o (refusedOr v (refusedEndTest r) (tested r (ready b r)) .reader)) same-bytes
       (tested-stands page (pageOf (page .0) flash) o r k v)
 
   pub skip-stands : (n : ℕ) → Stands page (pageOf (page .0) flash) o (skip r flash n .reader)
   unfolding skip
   skip-stands n =
       let v = readerCheck (length flash) r in
-      subst (λ (b : List ℕ). Stands page (pageOf (page .0) flash) o (passageAfter v r (passageOf r n (skipped b n r)) .reader)) same-bytes
+      subst (λ (b : List ℕ). Stands page (pageOf (page .0) flash) o (refusedOr v (refusedPassage r) (passageOf r n (skipped b n r)) .reader)) same-bytes
       (passed-stands page (pageOf (page .0) flash) o r k n v)
 
 -- an open that is not refused stands in the first chunk behind a good header
@@ -180,8 +181,8 @@ open-stands r flash magic page h e =
     bytes = pageOf (page .0) flash
 
     by : (v : Verdict) (t : Bool) → pageHeaderFine bytes magic (page .0) h ≡ t → (a : Arrived) → arriving (unread page) (12 + h) (checkedAt bytes (12 + h)) ≡ a
-        → openingAfter v r (openingOf r (cond t a Corrupted)) .answer ≡ outcome.Done
-        → (t ≡ true) × Stands page bytes (12 + h) (openingAfter v r (openingOf r (cond t a Corrupted)) .reader)
+        → refusedOr v (refusedOpening r) (openingOf r (cond t a Corrupted)) .answer ≡ outcome.Done
+        → (t ≡ true) × Stands page bytes (12 + h) (refusedOr v (refusedOpening r) (openingOf r (cond t a Corrupted)) .reader)
     by (Refused w) t f a g e = let z : _≡_ {A = ℕ} 0 1 = cc in absurd (omega arith)
     by Fine false f a g e = let z : _≡_ {A = ℕ} 0 1 = cc in absurd (omega arith)
     by Fine true f Corrupted g e = let z : _≡_ {A = ℕ} 0 1 = cc in absurd (omega arith)
@@ -194,25 +195,15 @@ pub rehydrate-restores : (r : PageReader) (flash : List ℕ) (d : DehydratedPage
     → rehydrateFrom r flash d .reader ≡ restored d
 unfolding rehydrateFrom
 rehydrate-restores r flash d e =
-    by (readerCheck (length flash) (restored d)) (restored d .ended || eqb (published (payloadAt (pageOf (d .page .0) flash) (d .offset) (d .len))) (d .crc)) e
+    by (readerCheck (length flash) (restored d)) (restored d .ended || payloadFine (pageOf (d .page .0) flash) (d .offset) (d .len) (d .crc)) e
   where
-    by : (v : Verdict) (t : Bool) → openingAfter v r (openingOf r (cond t (At (restored d)) Corrupted)) .answer ≡ outcome.Done
-        → openingAfter v r (openingOf r (cond t (At (restored d)) Corrupted)) .reader ≡ restored d
+    by : (v : Verdict) (t : Bool) → refusedOr v (refusedOpening r) (openingOf r (cond t (At (restored d)) Corrupted)) .answer ≡ outcome.Done
+        → refusedOr v (refusedOpening r) (openingOf r (cond t (At (restored d)) Corrupted)) .reader ≡ restored d
     by (Refused w) t e = let z : _≡_ {A = ℕ} 0 1 = cc in absurd (omega arith)
     by Fine false e = let z : _≡_ {A = ℕ} 0 1 = cc in absurd (omega arith)
     by Fine true e = refl
 
 -- ---- what a read puts
-
--- bytes over the start of others
-over-parts : (bytes xs : List ℕ) (n : ℕ) → n ≡ min (length xs) (length bytes) → over bytes xs ≡ take n bytes ++ drop n xs
-unfolding over
-over-parts [] xs n e = let z : n ≡ 0 = omega arith in rw z
-over-parts (b ∷ bytes) [] n e = let z : n ≡ 0 = omega arith in rw z
-over-parts (b ∷ bytes) (x ∷ xs) n e =
-    let m = min (length xs) (length bytes) in
-    let z : n ≡ suc m = omega arith in
-    rw z (ap (λ (l : List ℕ). b ∷ l) (over-parts bytes xs m refl))
 
 -- n bytes of what is left of a payload lie within the payload
 rest-covers : (page : List ℕ) (o len position n : ℕ) → n ≤ length (drop position (payloadAt page o len)) → 1 ≤ n → position + n ≤ len
@@ -266,7 +257,7 @@ module _ (page : PageID) (bytes : List ℕ) (o : ℕ) (r : PageReader) (k : Stan
   at-handed s (suc n) at e = some-handed s n at e
 
   work-handed : (v : Verdict)
-      → HandedBy bytes o buffer (bytesAfter v buffer (laidOver bytes buffer (ready bytes r))) (passageAfter v r (readOf bytes r (length buffer) (ready bytes r)) .answer)
+      → HandedBy bytes o buffer (refusedOr v (λ _. buffer) (laidOver bytes buffer (ready bytes r))) (refusedOr v (refusedPassage r) (readOf bytes r (length buffer) (ready bytes r)) .answer)
   work-handed (Refused w) = refl
   work-handed Fine = by (ready bytes r) refl
     where
@@ -282,5 +273,5 @@ read-hands flash page o r k buffer =
     let bytes = pageOf (page .0) flash in
     subst
     (λ (b : List ℕ).
-    HandedBy bytes o buffer (bytesAfter v buffer (laidOver b buffer (ready b r))) (passageAfter v r (readOf b r (length buffer) (ready b r)) .answer))
+    HandedBy bytes o buffer (refusedOr v (λ _. buffer) (laidOver b buffer (ready b r))) (refusedOr v (refusedPassage r) (readOf b r (length buffer) (ready b r)) .answer))
     (same-bytes flash page o r k) (work-handed page bytes o r k buffer v)

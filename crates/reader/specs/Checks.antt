@@ -1,16 +1,15 @@
--- The range of a reader, and the checks before a call's work, in their order, 5, 6, 11, 4 (docs/RULES.md, Ranges, Order of
+-- The range of a reader, and the checks before a call's work, in their order, 5, 11, 4 (docs/RULES.md, Ranges, Order of
 -- checks). Assumes nothing.
-use mathlib.Core.Bool.{Bool, _&&_, _||_, cond}
+use mathlib.Core.Bool.{Bool, _&&_, _||_}
 use Prim.Native.Nat.{ℕ, _+_, _%_}
 use lib.Dec.{eqb, leb, ltb}
 use Rattle.types.specs.Build.{pageSize, align, maxPageCount, pageHeaderSize, chunkHeaderSize}
-use Rattle.types.specs.declared.page_id.PageID.{PageID}
-use Rattle.types.specs.declared.refusal.Refusal.{Refusal}
-use Rattle.types.specs.declared.refusal.Refusal.the-variants.{OutOfRange, BadFlash, BadHeader, BadState}
+use Rattle.types.specs.Checks.{asking}
+use Rattle.types.specs.declared.refusal.Refusal.the-variants.{BadFlash, BadState}
 use Rattle.types.specs.declared.refusal.Verdict.{Verdict}
-use Rattle.types.specs.declared.refusal.Verdict.the-variants.{Fine, Refused}
-use Rattle.flash.specs.Geometry.{flashFine, hasPage}
-use Rattle.page.specs.Headers.{headerFine}
+use Rattle.types.specs.declared.refusal.Verdict.the-variants.{Fine}
+use Rattle.flash.specs.Geometry.{flashFine}
+use Rattle.page.specs.Checks.{pageCheck}
 use Rattle.reader.specs.declared.page_reader.PageReader.{PageReader}
 
 -- a chunk's offset is a multiple of 4 from 12, its payload ends within the page, and the position is at most its length
@@ -22,22 +21,10 @@ chunkInRange offset len position =
 abbrev pub inRange : PageReader → Bool
 inRange r = ltb (r .page .0) maxPageCount && (r .ended || chunkInRange (r .offset) (r .len) (r .position))
 
--- a check that refuses where its test fails, and the checks after it
-abbrev pub asking : Bool → Refusal → Verdict → Verdict
-asking test why later = cond test later (Refused why)
-
 -- 11, of dehydrate and page_id
 abbrev pub stateCheck : PageReader → Verdict
 stateCheck r = asking (inRange r) BadState Fine
 
--- 4
-abbrev pub pageCheck : ℕ → PageID → Verdict
-pageCheck n page = asking (hasPage n (page .0)) OutOfRange Fine
-
--- 5, 6, 4, of open and read_header on a flash of n bytes
-unfoldable pub openCheck : ℕ → ℕ → PageID → Verdict
-openCheck n h page = asking (flashFine n) BadFlash (asking (headerFine h) BadHeader (pageCheck n page))
-
--- 5, 11, 4, of every call on a reader that takes the flash
+-- 5, 11, 4, of every call on a reader that takes the flash, of n bytes
 unfoldable pub readerCheck : ℕ → PageReader → Verdict
 readerCheck n r = asking (flashFine n) BadFlash (asking (inRange r) BadState (pageCheck n (r .page)))

@@ -1,19 +1,17 @@
-// The checks before a call's work, in their order, 5, 6, 11, 4 (docs/RULES.md, Ranges, Order of checks).
+// The range of a reader, and the checks before a call's work, in their order, 5, 11, 4 (docs/RULES.md, Ranges, Order of checks).
 use crate::page_reader::PageReader;
 use flash::geometry::check_flash;
-use flash::geometry::has_page;
-use page::header::check_header;
+use page::checks::check_page;
 use types::config::ALIGN;
 use types::config::CHUNK_HEADER_SIZE;
 use types::config::MAX_PAGE_COUNT;
 use types::config::PAGE_HEADER_SIZE;
 use types::config::PAGE_SIZE;
 use types::num::minus;
-use types::page_id::PageID;
 use types::refusal::Refusal;
 use types::refusal::Verdict;
 ghost use mathlib.Core.Path.{_≡_};
-ghost use Rattle.reader.specs.Checks.{inRange, chunkInRange, stateCheck, pageCheck, openCheck, readerCheck};
+ghost use Rattle.reader.specs.Checks.{inRange, chunkInRange, stateCheck, readerCheck};
 
 fn chunk_in_range(offset: usize, len: usize, position: usize) -> bool
     ensures answers { λ r. ⌜ r ≡ chunkInRange offset len position ⌝ }
@@ -42,28 +40,6 @@ pub(crate) fn check_state(r: PageReader) -> Verdict
     } else {
         Verdict::Refused(Refusal::BadState)
     }
-}
-
-fn check_page(bytes: usize, page: PageID) -> Verdict
-    ensures answers { λ v. ⌜ v ≡ pageCheck bytes page ⌝ }
-{
-    if has_page(bytes, page) {
-        Verdict::Fine
-    } else {
-        Verdict::Refused(Refusal::OutOfRange)
-    }
-}
-
-pub(crate) fn check_open(bytes: usize, h: usize, page: PageID) -> Verdict
-    ensures answers { λ v. ⌜ v ≡ openCheck bytes h page ⌝ }
-{
-    if let Verdict::Refused(why) = check_flash(bytes) {
-        return Verdict::Refused(why);
-    }
-    if let Verdict::Refused(why) = check_header(h) {
-        return Verdict::Refused(why);
-    }
-    check_page(bytes, page)
 }
 
 pub(crate) fn check_reader(bytes: usize, r: PageReader) -> Verdict

@@ -14,7 +14,7 @@ pub struct DehydratedPageReader {
     pub position: usize,
 }
 
-pub(crate) fn stored_of(r: PageReader) -> DehydratedPageReader
+pub(crate) fn stored(r: PageReader) -> DehydratedPageReader
     ensures answers { λ d. ⌜ d ≡ stored r ⌝ }
 {
     let page = r.page;
@@ -28,7 +28,7 @@ pub(crate) fn stored_of(r: PageReader) -> DehydratedPageReader
     }
 }
 
-pub(crate) fn restored_of(d: DehydratedPageReader) -> PageReader
+pub(crate) fn restored(d: DehydratedPageReader) -> PageReader
     ensures answers { λ r. ⌜ r ≡ restored d ⌝ }
 {
     let page = d.page;

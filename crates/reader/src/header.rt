@@ -1,6 +1,6 @@
 // Reading a page's higher header alone (page.rs, read_header).
-use crate::checks::check_open;
 use flash::geometry::page_of;
+use page::checks::check_open;
 use page::header::header_of;
 use page::header::page_header_fine;
 use slices::part;

@@ -6,12 +6,11 @@ use crate::answers::EndTest;
 use crate::answers::EndTested;
 use crate::answers::Opening;
 use crate::answers::Passage;
-use crate::checks::check_open;
 use crate::checks::check_reader;
 use crate::checks::check_state;
 use crate::dehydrated::DehydratedPageReader;
-use crate::dehydrated::restored_of;
-use crate::dehydrated::stored_of;
+use crate::dehydrated::restored;
+use crate::dehydrated::stored;
 use crate::moves::Arrived;
 use crate::moves::Passed;
 use crate::moves::arriving;
@@ -21,6 +20,7 @@ use crate::moves::rest_of;
 use crate::moves::skipped;
 use crc::crc32;
 use flash::geometry::page_of;
+use page::checks::check_open;
 use page::chunk::payload_at;
 use page::header::header_of;
 use page::header::page_header_fine;
@@ -49,7 +49,7 @@ pub struct PageReader {
 }
 
 // A reader of this page that is in no chunk yet.
-fn unread_of(page: PageID) -> PageReader
+fn unread(page: PageID) -> PageReader
     ensures answers { λ r. ⌜ r ≡ unread page ⌝ }
 {
     PageReader {
@@ -66,7 +66,7 @@ impl PageReader {
     pub fn new() -> PageReader
         ensures answers { λ r. ⌜ r ≡ newReader ⌝ }
     {
-        unread_of(PageID::zero())
+        unread(PageID::zero())
     }
 
     // Opens a page at its first chunk. If that succeeds, the h bytes of the higher header are put into the buffer, whose length is h.
@@ -88,7 +88,7 @@ impl PageReader {
                 reader: self,
             };
         }
-        let Arrived::At(r) = arriving(unread_of(page), bytes, PAGE_HEADER_SIZE + h) else {
+        let Arrived::At(r) = arriving(unread(page), bytes, PAGE_HEADER_SIZE + h) else {
             return Opening {
                 answer: Outcome::Refused(Refusal::Corrupted),
                 reader: self,
@@ -188,14 +188,14 @@ impl PageReader {
         if let Verdict::Refused(why) = check_state(self) {
             return Dehydration::Refused(why);
         }
-        Dehydration::State(stored_of(self))
+        Dehydration::State(stored(self))
     }
 
     // Makes a reader of a kept state, after the sum of its chunk's payload was checked again.
     pub fn rehydrate_from(self, flash: &[u8], dehydrated: DehydratedPageReader) -> Opening
         ensures answers { λ r. ⌜ r ≡ rehydrateFrom self (now (flash .entry)) dehydrated ⌝ }
     {
-        let r = restored_of(dehydrated);
+        let r = restored(dehydrated);
         if let Verdict::Refused(why) = check_reader(flash.len(), r) {
             return Opening {
                 answer: Outcome::Refused(why),

@@ -31,7 +31,6 @@ use types::num::min;
 use types::num::minus;
 use writer::answers::Ended;
 use writer::answers::Length;
-use writer::answers::Opened;
 use writer::answers::Taking;
 use writer::page_writer::PageWriter;
 
@@ -56,13 +55,8 @@ fn left(w: State, line: &[u8]) -> Reply {
 }
 
 // An opening makes no operation.
-fn opened(change: Opened) -> Reply {
-    let answer = change.answer;
-    match answer {
-        Outcome::Done => say(Word::Ok),
-        Outcome::Refused(why) => say(Word::No(why)),
-    }
-    say(Word::Number(change.left));
+fn opened(change: Ended) -> Reply {
+    say_ended(change);
     say(Word::Number(0));
     end_line();
     let writer = change.writer;

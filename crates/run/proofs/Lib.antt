@@ -1,5 +1,7 @@
 pub mod AnswerLaws
+pub mod BoundLaws
 pub mod FitLaws
+pub mod ItemLaws
 pub mod RecordLaws
-pub mod RecordTableLaws
+pub mod RecordsHold
 pub mod SearchLaws

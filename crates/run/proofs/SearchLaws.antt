@@ -1,4 +1,4 @@
--- One turn of the search for a lower bound. Assumes nothing.
+-- The search for a lower bound, head by head, and one turn of its loop. Assumes nothing.
 use mathlib.Core.Path.{_≡_, refl, sym, _∙_}
 use mathlib.Core.List.{List}
 use mathlib.Core.Logic.{_⊎_, ⊎-elim}
@@ -17,10 +17,51 @@ use Rattle.run.specs.declared.record.Record.{Record}
 use Rattle.run.specs.declared.record.Head.{Head}
 use Rattle.run.specs.declared.record.Head.the-variants as head
 use Rattle.run.specs.declared.search.Sought.{Sought}
-use Rattle.run.specs.declared.search.Sought.the-variants.{At}
+use Rattle.run.specs.declared.search.Sought.the-variants.{Gone, At}
 use Rattle.run.proofs.bound.Bound as Bound'
 use Rattle.run.proofs.record.Head as Head'
 use Rattle.run.proofs.FitLaws.{Lies, head-lies}
+
+-- ---- what the search comes to
+
+module _ (run lower : List ℕ) where
+  pub searchIn-unbounded : searchIn run Unbounded lower ≡ At 0
+  unfolding searchIn
+  searchIn-unbounded = refl
+
+  pub searchIn-included : searchIn run Included lower ≡ soughtFrom (suc (length run)) run Included lower 0
+  unfolding searchIn
+  searchIn-included = refl
+
+  pub searchIn-excluded : searchIn run Excluded lower ≡ soughtFrom (suc (length run)) run Excluded lower 0
+  unfolding searchIn
+  searchIn-excluded = refl
+
+  module _ (heads : ℕ) (bound : Bound) (at : ℕ) where
+    pub soughtFrom-end : headAt run at ≡ head.Nothing → soughtFrom (suc heads) run bound lower at ≡ Gone
+    unfolding soughtFrom soughtHead
+    soughtFrom-end g = rw g
+
+    pub soughtFrom-record : (r : Record) → headAt run at ≡ head.Record r
+        → soughtFrom (suc heads) run bound lower at
+        ≡ soughtBy (compareKeys (keyIn run r) lower) bound at (r .next) (λ next. soughtFrom heads run bound lower next)
+    unfolding soughtFrom soughtHead
+    soughtFrom-record r g = rw g
+
+module _ (bound : Bound) (at next : ℕ) (later : ℕ → Sought) where
+  pub soughtBy-less : soughtBy Less bound at next later ≡ later next
+  unfolding soughtBy
+  soughtBy-less = refl
+
+  pub soughtBy-equal : soughtBy Equal bound at next later ≡ At (levelAt bound at next)
+  unfolding soughtBy
+  soughtBy-equal = refl
+
+  pub soughtBy-greater : soughtBy Greater bound at next later ≡ At at
+  unfolding soughtBy
+  soughtBy-greater = refl
+
+-- ---- a turn
 
 -- a bound that there is
 pub sought-bounded : (run : List ℕ) (bound : Bound) (lower : List ℕ) → (tagOf Bound'.the-type bound ≡ 1) ⊎ (tagOf Bound'.the-type bound ≡ 2)

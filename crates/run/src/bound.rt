@@ -11,7 +11,7 @@ pub enum Bound {
 }
 
 // Whether a key lies past an upper bound.
-pub fn past(key: &[u8], bound: Bound, upper: &[u8]) -> bool
+pub fn is_past(key: &[u8], bound: Bound, upper: &[u8]) -> bool
     ensures answers { λ r. ⌜ r ≡ isPast bound (now (upper .entry)) (now (key .entry)) ⌝ }
 {
     match bound {

@@ -1,3 +1,4 @@
 pub mod FieldLaws
+pub mod OverLaws
 pub mod PartLaws
 pub mod PatchLaws

@@ -1,6 +1,6 @@
 -- Numbers as bytes and back, at every width. Assumes nothing.
 use mathlib.Core.Path.{_≡_, refl, sym, ap, ap₂, _∙_}
-use mathlib.Core.List.{List, [], _∷_}
+use mathlib.Core.List.{List, [], _∷_, _++_}
 use Prim.Native.Nat.{ℕ, zero, suc, _+_, _*_, _/_, _%_, _^_, _<_}
 use native.Mathlib.Nat.{pow-suc}
 use native.Mathlib.Omega.{arith}
@@ -11,6 +11,10 @@ use Rattle.types.specs.Bytes.{Bytes, word, bytesOf}
 
 -- ---- bytes
 
+pub bytes-none : Bytes []
+unfolding Bytes
+bytes-none i = omega arith
+
 pub bytes-tail : (b : ℕ) (bs : List ℕ) → Bytes (b ∷ bs) → Bytes bs
 unfolding Bytes
 bytes-tail b bs h i = h (suc i)
@@ -20,6 +24,12 @@ unfolding Bytes
 bytes-first b bs h = h 0
 
 -- ---- a number's bytes
+
+pub bytes-append : (a b : List ℕ) → Bytes a → Bytes b → Bytes (a ++ b)
+unfolding Bytes
+bytes-append [] b p q i = q i
+bytes-append (x ∷ a) b p q zero = p 0
+bytes-append (x ∷ a) b p q (suc i) = bytes-append a b (λ j. p (suc j)) q i
 
 pub length-bytesOf : (k n : ℕ) → length (bytesOf k n) ≡ k
 unfolding bytesOf

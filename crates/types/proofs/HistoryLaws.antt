@@ -24,6 +24,10 @@ module _ {World Call : Type 0} (leftBy : World → Call → World) where
   leftAfter-keeps P keeps x (call ∷ calls) p = leftAfter-keeps P keeps (leftBy x call) calls (keeps x call p)
 
 module _ {World Call Told : Type 0} (leftBy : World → Call → World) (toldBy : World → Call → Told) where
+  pub toldByEach-none : (x : World) → toldByEach leftBy toldBy x [] ≡ []
+  unfolding toldByEach
+  toldByEach-none x = refl
+
   pub toldByEach-more : (x : World) (call : Call) (calls : List Call)
       → toldByEach leftBy toldBy x (call ∷ calls) ≡ toldBy x call ∷ toldByEach leftBy toldBy (leftBy x call) calls
   unfolding toldByEach

@@ -3,26 +3,27 @@
 -- Assumes nothing.
 use mathlib.Core.Path.{_≡_, refl, sym, ap, subst, _∙_}
 use mathlib.Core.Bool.{Bool, true, false, cond}
-use mathlib.Core.List.{List, [], _∷_, _++_}
+use mathlib.Core.List.{List, [], _∷_}
 use mathlib.Core.Logic.{⊎-elim}
-use Prim.Native.Nat.{ℕ, _+_, _-_, _*_, _/_, _%_, _≤_, _<_, min}
+use Prim.Native.Nat.{ℕ, _+_, _-_, _*_, _/_, _%_, _≤_, _<_}
 use native.Mathlib.Nat.{le-refl}
 use native.Mathlib.Omega.{arith}
 use lib.ListN.{length, drop, getD, length-take, List·getD-eq-default}
 use lib.Seq.{getD-drop}
-use borrow.Author.Tests.{eq-eqb, ne-eqb, eqb-true}
+use borrow.Author.Tests.{eq-eqb, ne-eqb}
 use Rattle.types.specs.Build.{pageSize, align, chunkHeaderSize}
+use Rattle.types.specs.Checks.{refusedOr}
 use Rattle.types.specs.declared.page_id.PageID.{PageID}
 use Rattle.types.specs.declared.refusal.Verdict.{Verdict}
 use Rattle.types.specs.declared.refusal.Verdict.the-variants as verdict
 use Rattle.types.proofs.TestLaws.{decided, eq-or-ne, le-or-lt}
 use Rattle.crc.specs.Register.{finished}
 use Rattle.flash.specs.Geometry.{pageOf}
-use Rattle.flash.specs.Operations.{Op, erase, store, opIf, applied}
-use Rattle.slices.specs.Patch.{blank}
+use Rattle.flash.specs.Operations.{Op, store, applied}
 use Rattle.flash.proofs.OperationLaws.{applied-append}
 use Rattle.flash.proofs.PageLaws.{length-applied}
 use Rattle.slices.proofs.PatchLaws.{getD-blank}
+use Rattle.page.specs.Checks.{openCheck}
 use Rattle.page.specs.Chunks.{nextOffset}
 use Rattle.page.specs.Headers.{pageHeader}
 use Rattle.page.specs.Walks.{walkEnd, allErased}
@@ -33,13 +34,14 @@ use Rattle.page.proofs.PutLaws.{length-chunkHeader, length-pageHeader}
 use Rattle.writer.specs.Commits.{groupAt, restOps, sealOp, chunkOps, nextChunk, commitOps, committed}
 use Rattle.writer.specs.Headings.{headerOps, headed}
 use Rattle.writer.specs.Landings.{Erased, Lands}
-use Rattle.writer.specs.Openings.{openedAfter, appendedAt, appended}
+use Rattle.writer.specs.Openings.{appendedAt, appended}
+use Rattle.writer.specs.Outcomes.{refusedAt}
 use Rattle.writer.specs.States.{firstChunk, fresh}
-use Rattle.writer.specs.Checks.{headingCheck, openCheck}
+use Rattle.writer.specs.Checks.{headingCheck}
 use Rattle.writer.specs.Writes.{takes, grown, isFull, closeOps, closed, payloadOps, takingOps, takenOf, writeOps, written}
 use Rattle.types.specs.declared.answers.Outcome.the-variants.{Done}
 use Rattle.writer.specs.declared.page_writer.PageWriter.{PageWriter}
-use Rattle.writer.proofs.CheckLaws.{Sound, heading-passed, sound}
+use Rattle.writer.proofs.CheckLaws.{InRange, heading-checked}
 use Rattle.writer.proofs.LiesOnLaws.{in-page}
 use Rattle.writer.proofs.PlaceLaws.{taking-unarmed, length-bufferOf, payload-rising, rest-rising}
 use Rattle.writer.proofs.RangeLaws.{taken-room, taken-some}
@@ -76,10 +78,10 @@ resume-clean e page h o p false short q = fresh-clean e page h pageSize p (λ i 
 pub append-clean : (e : ℕ) (xs : List ℕ) (page : PageID) (h : ℕ) (w : PageWriter) (left : ℕ) → appended e xs page h w left .answer ≡ Done
     → Clean e (appended e xs page h w left .writer) (pageOf (page .0) xs)
 unfolding appended
-append-clean e xs page h w left = by (openCheck (length xs) (page .0) h) (walkEnd (pageOf (page .0) xs) (firstChunk h))
+append-clean e xs page h w left = by (openCheck (length xs) h page) (walkEnd (pageOf (page .0) xs) (firstChunk h))
   where
-    by : (v : Verdict) (end : Ending) → openedAfter v w left (appendedAt e (pageOf (page .0) xs) page h w left end) .answer ≡ Done
-        → Clean e (openedAfter v w left (appendedAt e (pageOf (page .0) xs) page h w left end) .writer) (pageOf (page .0) xs)
+    by : (v : Verdict) (end : Ending) → refusedOr v (refusedAt w left) (appendedAt e (pageOf (page .0) xs) page h w left end) .answer ≡ Done
+        → Clean e (refusedOr v (refusedAt w left) (appendedAt e (pageOf (page .0) xs) page h w left end) .writer) (pageOf (page .0) xs)
     by (verdict.Refused why) end a = let z : _≡_ {A = ℕ} 0 1 = cc in absurd (omega arith)
     by verdict.Fine Corrupted a = let z : _≡_ {A = ℕ} 0 1 = cc in absurd (omega arith)
     by verdict.Fine (EndAt o) a =
@@ -91,7 +93,7 @@ next-up : (o p : ℕ) → o % 4 ≡ 0 → (o + 8 ≤ o + 8 + (p - p % 4)) × ((o
 next-up o p e = (omega arith, (omega arith, omega arith))
 
 -- a chunk that fits into a page ends within it, its padding too
-chunk-end : (o p long : ℕ) → long ≡ 4096 → o + 8 + p ≤ 4096 → (o + 8 ≤ long) × ((o + 8 + p + 3) / 4 * 4 ≤ long)
+chunk-end : (o p long : ℕ) → long ≡ pageSize → o + 8 + p ≤ pageSize → (o + 8 ≤ long) × ((o + 8 + p + 3) / 4 * 4 ≤ long)
 chunk-end o p long whole fits = (omega arith, omega arith)
 
 seal-rising : (w : PageWriter) → Rising (w .offset) (w .offset + chunkHeaderSize) (sealOp w ∷ [])
@@ -118,7 +120,7 @@ chunk-clean e w p even whole fits c =
       record { unarmed = refl; four = c .four; head = later next (next + 8) (le-refl next); rest = λ b. later (next + 8 + 0) b (omega arith) },
     )
 
-pub commit-clean : (e : ℕ) (w : PageWriter) (p : List ℕ) → Sound w → length p ≡ pageSize → Clean e w p
+pub commit-clean : (e : ℕ) (w : PageWriter) (p : List ℕ) → InRange w → length p ≡ pageSize → Clean e w p
     → Lands e (commitOps e w) p × Clean e (committed w) (applied 0 (commitOps e w) p)
 commit-clean e w p s whole c =
     ⊎-elim
@@ -131,7 +133,7 @@ commit-clean e w p s whole c =
 group-up : (o p n : ℕ) → (o + 8 ≤ o + 8 + (p - p % 4)) × (o + 8 + (p - p % 4) ≤ o + 8 + (p + n - (p + n) % 4))
 group-up o p n = (omega arith, omega arith)
 
-group-end : (o p long : ℕ) → long ≡ 4096 → o + 8 + p ≤ 4096 → o + 8 + (p - p % 4) ≤ long
+group-end : (o p long : ℕ) → long ≡ pageSize → o + 8 + p ≤ pageSize → o + 8 + (p - p % 4) ≤ long
 group-end o p long whole fits = omega arith
 
 grown-clean : (e : ℕ) (w : PageWriter) (bytes p : List ℕ) → length p ≡ pageSize → w .offset + chunkHeaderSize + (w .pending + length bytes) ≤ pageSize → Clean e w p
@@ -165,7 +167,7 @@ taking-clean e w bytes p even whole fits c =
       subst (λ (q : List ℕ). Clean e (closed (grown w bytes)) q) (sym (applied-append 0 (payloadOps w bytes) (closeOps e (grown w bytes)) p)) (b .1),
     )
 
-pub write-clean : (e : ℕ) (w : PageWriter) (bytes p : List ℕ) → Sound w → length p ≡ pageSize → Clean e w p
+pub write-clean : (e : ℕ) (w : PageWriter) (bytes p : List ℕ) → InRange w → length p ≡ pageSize → Clean e w p
     → Lands e (writeOps e w bytes) p × Clean e (written w bytes) (applied 0 (writeOps e w bytes) p)
 write-clean e w bytes p s whole c =
     ⊎-elim
@@ -182,9 +184,9 @@ unfolding headerOps
 heading-clean n e w magic header p v c =
     let o = w .offset in
     let bytes = pageHeader magic (w .page .0) header in
-    let k = heading-passed n w (length header) v in
-    let h : length header ≡ w .h = k .1 .0 in
-    let after = sound w (k .0 .state) .after in
+    let k = heading-checked n w (length header) v in
+    let h : length header ≡ w .h = k .own in
+    let after = k .writer .range .after in
     let long : length bytes ≡ 12 + length header = length-pageHeader magic (w .page .0) header in
     let ops : List Op = store 0 bytes ∷ [] in
     let r : Rising 0 o ops = (le-refl 0, rw long (omega arith)) in

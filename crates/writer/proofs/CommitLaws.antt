@@ -67,4 +67,4 @@ module _ (e : ℕ) (w : PageWriter) (left : ℕ) (xs : List ℕ) (fine : writerC
       → Ends (commitDuty e xs w) w left xs out ys
   commit-some r ys next out n ran f o =
       rw (ne-eqb (w .pending) 0 n, o, f)
-      (ends-ran (record { verdict = writerCheck (length xs) w; ops = chunkOps e w; next = nextChunk w }) w left xs r ys fine ran)
+      (ends-ran (record { check = writerCheck (length xs) w; ops = chunkOps e w; next = nextChunk w }) w left xs r ys fine ran)

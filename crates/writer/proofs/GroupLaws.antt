@@ -1,28 +1,19 @@
 -- The group buffer: bytes put into a part of it, and what is left over of a write. Assumes nothing.
-use mathlib.Core.Path.{_≡_, sym, ap, ap₂, _∙_}
+use mathlib.Core.Path.{_≡_, sym, ap, _∙_}
 use mathlib.Core.List.{List, _++_, append-nil}
 use mathlib.Core.Logic.{⊎-elim}
 use Prim.Native.Nat.{ℕ, _+_, _-_, _≤_, min}
-use native.Mathlib.Nat.{add-zero, le-refl}
 use native.Mathlib.Omega.{arith}
-use lib.ListN.{length, take, drop, length-drop, take-append-drop, drop-of-length-le}
+use lib.ListN.{length, take, drop, length-drop, drop-of-length-le}
 use lib.Seq.{take-all}
 use Rattle.types.proofs.TestLaws.{le-or-lt}
+use Rattle.slices.proofs.OverLaws.{patch-split}
 use Rattle.slices.specs.Patch.{over, patch}
-use Rattle.slices.proofs.PatchLaws.{patch-past, take-patch-below, drop-patch}
+use Rattle.slices.proofs.PatchLaws.{patch-past}
 
 -- all from an index on
 pub take-rest : (from : ℕ) (xs : List ℕ) → take (length xs - from) (drop from xs) ≡ drop from xs
 take-rest from xs = take-all (length xs - from) (drop from xs) (rw length-drop (omega arith))
-
--- a patch is what lies before it, and bytes put over the rest
-patch-split : (at : ℕ) (bytes xs : List ℕ) → take at xs ++ over bytes (drop at xs) ≡ patch at bytes xs
-unfolding patch
-patch-split at bytes xs =
-    let low : take at (patch at bytes xs) ≡ take at xs = take-patch-below at at bytes xs (le-refl at) in
-    let high : drop at (patch at bytes xs) ≡ over bytes (drop at xs) =
-    ap (λ (k : ℕ). drop at (patch k bytes xs)) (sym (add-zero at)) ∙ drop-patch at 0 bytes xs in
-    ap₂ (λ (a b : List ℕ). a ++ b) (sym low) (sym high) ∙ take-append-drop at (patch at bytes xs)
 
 -- bytes were put over the part from an index to the end
 part-back : (at n : ℕ) (bytes xs ys : List ℕ) → length xs ≤ at + n → ys ≡ over bytes (take n (drop at xs))

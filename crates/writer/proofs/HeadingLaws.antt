@@ -1,48 +1,39 @@
 -- The page header in its room, and the operations of write_header. Assumes nothing.
 use mathlib.Core.Path.{_≡_, _∙_}
 use mathlib.Core.Bool.{true, _&&_}
-use mathlib.Core.List.{List, [], _∷_, _++_}
-use Prim.Native.Nat.{ℕ, _+_, _-_, _≤_}
+use mathlib.Core.List.{List, [], _∷_}
+use Prim.Native.Nat.{ℕ, _+_, _≤_}
 use native.Mathlib.Omega.{arith}
 use lib.ListN.{length, take}
 use Rattle.types.specs.Build.{pageHeaderSize, maxHeaderSize}
 use Rattle.types.specs.Bytes.{bytesOf}
-use Rattle.types.proofs.BytesLaws.{length-bytesOf}
 use Rattle.crc.specs.Published.{published}
 use Rattle.flash.specs.Geometry.{pageStart}
 use Rattle.flash.specs.Operations.{erase, store, opIf, allLieOn}
 use Rattle.slices.specs.Patch.{patch, blank}
 use Rattle.flash.specs.declared.ops.Spent.{Spent}
+use Rattle.slices.proofs.OverLaws.{patch-start}
 use Rattle.flash.proofs.LiesOnLaws.{RanOn, lies-both, on-ran, ran-next}
 use Rattle.flash.proofs.OperationLaws.{Ran}
-use Rattle.slices.proofs.PatchLaws.{length-over, length-blank, part-patch, patch-join}
+use Rattle.slices.proofs.PatchLaws.{length-over, length-blank, part-over}
 use Rattle.page.specs.Headers.{pageHeader}
-use Rattle.page.proofs.PutLaws.{length-pageHeader}
+use Rattle.page.proofs.PutLaws.{length-pageHeader, pageHeader-laid}
 use Rattle.writer.specs.Headings.{headerRoom, headerOps}
 use Rattle.writer.specs.declared.page_writer.PageWriter.{PageWriter}
 
--- four parts, one behind the other
-laid : (a b c d xs : List ℕ) → length a ≡ 4 → length b ≡ 4 → length c ≡ 4
-    → patch 12 d (patch 8 c (patch 4 b (patch 0 a xs))) ≡ patch 0 (a ++ (b ++ (c ++ d))) xs
-laid a b c d xs p q r =
-    (rw r at (patch-join 8 c d (patch 4 b (patch 0 a xs)))) ∙ (rw q at (patch-join 4 b (c ++ d) (patch 0 a xs))) ∙ (rw p at (patch-join 0 a (b ++ (c ++ d)) xs))
-
 pub room-laid : (magic p : ℕ) (header : List ℕ)
     → patch 12 header (patch 8 (bytesOf 4 (published header)) (patch 4 (bytesOf 4 p) (patch 0 (bytesOf 4 magic) (blank 0 76)))) ≡ headerRoom magic p header
-unfolding pageHeader patch
-room-laid magic p header =
-    laid (bytesOf 4 magic) (bytesOf 4 p) (bytesOf 4 (published header)) header (blank 0 76) (length-bytesOf 4 magic) (length-bytesOf 4 p) (length-bytesOf 4 (published header))
+room-laid magic p header = pageHeader-laid magic p header (blank 0 76) ∙ patch-start (pageHeader magic p header) (blank 0 76)
 
 pub length-room : (magic p : ℕ) (header : List ℕ) → length (headerRoom magic p header) ≡ pageHeaderSize + maxHeaderSize
 length-room magic p header = length-over (pageHeader magic p header) (blank 0 76) ∙ length-blank 0 76
 
 -- the header at the room's start
 room-start : (magic p : ℕ) (header : List ℕ) → length header ≤ maxHeaderSize → take (pageHeaderSize + length header) (headerRoom magic p header) ≡ pageHeader magic p header
-unfolding patch
 room-start magic p header h =
     let l : length (pageHeader magic p header) ≡ 12 + length header = length-pageHeader magic p header in
-    let fits : 0 + length (pageHeader magic p header) ≤ length (blank 0 76) = rw (l, length-blank) (omega arith) in
-    rw (← l) (part-patch 0 (pageHeader magic p header) (blank 0 76) fits)
+    let fits : length (pageHeader magic p header) ≤ length (blank 0 76) = rw (l, length-blank) (omega arith) in
+    rw (← l) (part-over (pageHeader magic p header) (blank 0 76) fits)
 
 -- the runs of the erase and the store; v₀ to v₂ is the flash before, between and after them
 pub header-ran : (e left n magic : ℕ) (w : PageWriter) (header room v₀ v₁ v₂ : List ℕ) (x y : Spent)

@@ -1,9 +1,13 @@
+pub mod AddingLaws
 pub mod CheckLaws
 pub mod CleanLaws
+pub mod ClosingLaws
 pub mod CommitLaws
+pub mod FineLaws
 pub mod GroupLaws
 pub mod HeadingLaws
 pub mod LiesOnLaws
+pub mod OpenedLaws
 pub mod OpeningLaws
 pub mod OutcomeLaws
 pub mod PlaceLaws
@@ -11,4 +15,5 @@ pub mod PlacedLaws
 pub mod RangeLaws
 pub mod ReferenceCasesHold
 pub mod StoreLaws
+pub mod WholeLaws
 pub mod WriteLaws

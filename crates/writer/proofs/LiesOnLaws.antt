@@ -8,7 +8,7 @@ use native.Mathlib.Omega.{arith}
 use lib.Dec.{eqb}
 use lib.ListN.{length, take}
 use borrow.Author.Tests.{le-leb}
-use Rattle.types.specs.Build.{pageSize, align, chunkHeaderSize, maxHeaderSize, maxChunkSize}
+use Rattle.types.specs.Build.{pageSize, align, maxHeaderSize, chunkHeaderSize, maxChunkSize}
 use Rattle.crc.specs.Register.{finished}
 use Rattle.flash.specs.Geometry.{hasPage}
 use Rattle.flash.specs.Operations.{Op, erase, store, opIf, liesOn, allLieOn}
@@ -20,7 +20,7 @@ use Rattle.writer.specs.Commits.{groupAt, eraseOps, restOps, sealOp, chu
 use Rattle.writer.specs.Headings.{headerOps}
 use Rattle.writer.specs.Writes.{takes, grown, isFull, closeOps, payloadOps, takingOps, takenOf}
 use Rattle.writer.specs.declared.page_writer.PageWriter.{PageWriter}
-use Rattle.writer.proofs.CheckLaws.{Passed, sound}
+use Rattle.writer.proofs.CheckLaws.{WriterChecked}
 use Rattle.writer.proofs.PlaceLaws.{length-bufferOf, payload-rising, rest-rising}
 use Rattle.writer.proofs.RangeLaws.{taken-room, taken-some}
 use Rattle.writer.proofs.StoreLaws.{Rising, rising-le}
@@ -28,7 +28,7 @@ use Rattle.writer.proofs.StoreLaws.{Rising, rising-le}
 -- ---- on a page that is there
 
 store-lies : (n p at : ℕ) (bytes : List ℕ) → hasPage n p ≡ true → at + length bytes ≤ pageSize → liesOn n p (store at bytes) ≡ true
-store-lies n p at bytes there fits = rw (there, le-leb (at + length bytes) 4096 fits)
+store-lies n p at bytes there fits = rw (there, le-leb (at + length bytes) pageSize fits)
 
 -- stores one behind the other, up to an end in the page
 rising-lies : (n p a b : ℕ) (ops : List Op) → hasPage n p ≡ true → b ≤ pageSize → Rising a b ops → allLieOn n p ops ≡ true
@@ -61,7 +61,7 @@ chunk-lies e n w there four even fits =
     (rising-lies n p (groupAt w) (nextOffset (w .offset) (w .pending)) (restOps w) there end (rest-rising w four even)))
     (one-lies n p (w .offset) header there (rw eight (omega arith)))
   where
-    group-end : (o p : ℕ) → o + 8 + p ≤ 4096 → (o + 8 + p + 3) / 4 * 4 ≤ 4096
+    group-end : (o p : ℕ) → o + 8 + p ≤ pageSize → (o + 8 + p + 3) / 4 * 4 ≤ pageSize
     group-end o p fits = omega arith
 
 taking-lies : (e n : ℕ) (w : PageWriter) (bytes : List ℕ) → hasPage n (w .page .0) ≡ true → length (w .buf) ≡ align → w .offset % align ≡ 0
@@ -75,7 +75,7 @@ taking-lies e n w bytes there four even fits =
     (rising-lies n p (groupAt w) (groupAt (grown w bytes)) (payloadOps w bytes) there end (payload-rising w bytes four)))
     (close (isFull (grown w bytes)))
   where
-    group-end : (o p : ℕ) → o + 8 + p ≤ 4096 → o + 8 + (p - p % 4) ≤ 4096
+    group-end : (o p : ℕ) → o + 8 + p ≤ pageSize → o + 8 + (p - p % 4) ≤ pageSize
     group-end o p fits = omega arith
 
     close : (full : Bool) → allLieOn n (w .page .0) (cond full (chunkOps e (grown w bytes)) []) ≡ true
@@ -92,27 +92,27 @@ closing-lies e m n w next bytes lie grows long =
 -- ---- the calls, where the checks have passed
 
 -- a chunk with some bytes in range ends within the page
-pub in-page : (o p : ℕ) → p ≤ min 4076 (4096 - 8 - o) → (p ≡ 0 → ⊥) → o + 8 + p ≤ 4096
+pub in-page : (o p : ℕ) → p ≤ min maxChunkSize (pageSize - 8 - o) → (p ≡ 0 → ⊥) → o + 8 + p ≤ pageSize
 in-page o p room some = omega arith
 
-pub commit-lies : (e n : ℕ) (w : PageWriter) → Passed n w → length (w .buf) ≡ align → (w .pending ≡ 0 → ⊥)
+pub commit-lies : (e n : ℕ) (w : PageWriter) → WriterChecked n w → length (w .buf) ≡ align → (w .pending ≡ 0 → ⊥)
     → allLieOn n (w .page .0) (chunkOps e w) ≡ true
-commit-lies e n w passed four some =
-    let s = sound w (passed .state) in
-    chunk-lies e n w (passed .place) four (s .even) (in-page (w .offset) (w .pending) (s .room) some)
+commit-lies e n w checked four some =
+    let s = checked .range in
+    chunk-lies e n w (checked .flash .there) four (s .even) (in-page (w .offset) (w .pending) (s .room) some)
 
-pub write-lies : (e m n : ℕ) (w : PageWriter) (bytes : List ℕ) → Passed m w → length (w .buf) ≡ align → n ≡ takes (length bytes) w
+pub write-lies : (e m n : ℕ) (w : PageWriter) (bytes : List ℕ) → WriterChecked m w → length (w .buf) ≡ align → n ≡ takes (length bytes) w
     → (n ≡ 0 → ⊥) → allLieOn m (w .page .0) (takingOps e w (take n bytes)) ≡ true
-write-lies e m n w bytes passed four t some =
+write-lies e m n w bytes checked four t some =
     let taken : takes (length bytes) w ≡ 0 → ⊥ = λ z. some (t ∙ z) in
     let fits = in-page (w .offset) (w .pending + length (takenOf w bytes)) (taken-room w bytes taken) (taken-some w bytes taken) in
-    rw t (taking-lies e m w (takenOf w bytes) (passed .place) four (sound w (passed .state) .even) fits)
+    rw t (taking-lies e m w (takenOf w bytes) (checked .flash .there) four (checked .range .even) fits)
 
-pub header-lies : (e n : ℕ) (w : PageWriter) (magic : ℕ) (header : List ℕ) → Passed n w → length header ≤ maxHeaderSize
+pub header-lies : (e n : ℕ) (w : PageWriter) (magic : ℕ) (header : List ℕ) → WriterChecked n w → length header ≤ maxHeaderSize
     → allLieOn n (w .page .0) (headerOps e w magic header) ≡ true
 unfolding headerOps
-header-lies e n w magic header passed short =
+header-lies e n w magic header checked short =
     let p = w .page .0 in
     let long : length (pageHeader magic p header) ≡ 12 + length header = length-pageHeader magic p header in
-    lies-append n p (eraseOps e w) (store 0 (pageHeader magic p header) ∷ []) (erase-lies n p e (w .armed) (passed .place))
-    (one-lies n p 0 (pageHeader magic p header) (passed .place) (rw long (omega arith)))
+    lies-append n p (eraseOps e w) (store 0 (pageHeader magic p header) ∷ []) (erase-lies n p e (w .armed) (checked .flash .there))
+    (one-lies n p 0 (pageHeader magic p header) (checked .flash .there) (rw long (omega arith)))

@@ -12,11 +12,12 @@ use Rattle.types.specs.declared.refusal.Refusal.{Refusal}
 use Rattle.types.specs.declared.refusal.Refusal.the-variants as refusal
 use Rattle.types.specs.declared.refusal.Verdict.the-variants as verdict
 use Rattle.flash.specs.Geometry.{pageOf}
+use Rattle.page.specs.Checks.{openCheck}
 use Rattle.page.specs.Walks.{walkEnd, allErased}
 use Rattle.page.specs.declared.walk.Ending.the-variants.{EndAt, Corrupted}
-use Rattle.writer.specs.Openings.{openAs, refusedAs, opened, resumeAt, appended}
+use Rattle.writer.specs.Openings.{openAs, opened, resumeAt, appended}
+use Rattle.writer.specs.Outcomes.{refusedAt}
 use Rattle.writer.specs.States.{firstChunk, fresh}
-use Rattle.writer.specs.Checks.{openCheck}
 use Rattle.writer.specs.declared.page_writer.PageWriter.{PageWriter}
 
 -- ---- where to go on
@@ -33,24 +34,24 @@ resume-nowhere e o page part t p r s = rw (sym (rest-erased e o page part t p r)
 -- ---- the two calls
 
 module _ (xs : List ℕ) (page : PageID) (h : ℕ) (w : PageWriter) (left : ℕ) where
-  pub open-refused : (why : Refusal) → openCheck (length xs) (page .0) h ≡ verdict.Refused why → refusedAs why w left ≡ opened xs page h w left
+  pub open-refused : (why : Refusal) → openCheck (length xs) h page ≡ verdict.Refused why → refusedAt w left why ≡ opened xs page h w left
   unfolding opened
   open-refused why e = rw e
 
-  pub open-fine : (next : PageWriter) → openCheck (length xs) (page .0) h ≡ verdict.Fine → next ≡ fresh true page h (firstChunk h) → openAs next left ≡ opened xs page h w left
+  pub open-fine : (next : PageWriter) → openCheck (length xs) h page ≡ verdict.Fine → next ≡ fresh true page h (firstChunk h) → openAs next left ≡ opened xs page h w left
   unfolding opened
   open-fine next e n = rw (e, n)
 
-  pub append-refused : (e : ℕ) (why : Refusal) → openCheck (length xs) (page .0) h ≡ verdict.Refused why → refusedAs why w left ≡ appended e xs page h w left
+  pub append-refused : (e : ℕ) (why : Refusal) → openCheck (length xs) h page ≡ verdict.Refused why → refusedAt w left why ≡ appended e xs page h w left
   unfolding appended
   append-refused e why v = rw v
 
-  pub append-corrupted : (e : ℕ) (bytes : List ℕ) → openCheck (length xs) (page .0) h ≡ verdict.Fine → bytes ≡ pageOf (page .0) xs → walkEnd bytes (firstChunk h) ≡ Corrupted
-      → refusedAs refusal.Corrupted w left ≡ appended e xs page h w left
+  pub append-corrupted : (e : ℕ) (bytes : List ℕ) → openCheck (length xs) h page ≡ verdict.Fine → bytes ≡ pageOf (page .0) xs → walkEnd bytes (firstChunk h) ≡ Corrupted
+      → refusedAt w left refusal.Corrupted ≡ appended e xs page h w left
   unfolding appended
   append-corrupted e bytes v b c = rw (v, ← b, c)
 
-  pub append-fine : (e : ℕ) (bytes : List ℕ) (o at : ℕ) (next : PageWriter) → openCheck (length xs) (page .0) h ≡ verdict.Fine → bytes ≡ pageOf (page .0) xs
+  pub append-fine : (e : ℕ) (bytes : List ℕ) (o at : ℕ) (next : PageWriter) → openCheck (length xs) h page ≡ verdict.Fine → bytes ≡ pageOf (page .0) xs
       → walkEnd bytes (firstChunk h) ≡ EndAt o → at ≡ resumeAt e bytes o → next ≡ fresh false page h at → openAs next left ≡ appended e xs page h w left
   unfolding appended
   append-fine e bytes o at next v b c r n = rw (n, r, v, ← b, c)

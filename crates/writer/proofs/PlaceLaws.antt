@@ -1,32 +1,26 @@
 -- Where a call's stores lie, and how many there are: the payload's within the page, behind the chunk's header and in address order,
 -- then the chunk's header. Assumes nothing.
-use mathlib.Core.Path.{_≡_, refl, sym, ap, _∙_}
-use mathlib.Core.Bool.{Bool, true, false, cond, not, _&&_}
-use mathlib.Core.List.{List, [], _∷_, _++_, append-assoc}
-use mathlib.Core.Logic.{_⊎_, inl, inr, ⊎-elim}
+use mathlib.Core.Path.{_≡_, refl, ap, _∙_}
+use mathlib.Core.Bool.{Bool, true, false, cond, not}
+use mathlib.Core.List.{List, [], _∷_, _++_}
+use mathlib.Core.Logic.{_⊎_, ⊎-elim}
 use Prim.Native.Nat.{ℕ, _+_, _-_, _*_, _/_, _%_, _≤_, _<_, min}
 use native.Mathlib.Nat.{le-refl}
 use native.Mathlib.Omega.{arith}
-use lib.Dec.{eqb, leb}
+use lib.Dec.{eqb}
 use lib.ListN.{length, take, drop, length-append, length-take, length-drop}
-use borrow.Author.Tests.{eq-eqb, ne-eqb, le-leb, lt-leb, eqb-true, eqb-false, leb-true, leb-false, not-true, not-false}
-use Rattle.types.specs.Build.{pageSize, align, pageHeaderSize, chunkHeaderSize, maxChunkSize}
-use Rattle.types.proofs.TestLaws.{decided, both-true, eq-or-ne, le-or-lt}
-use Rattle.crc.specs.Register.{finished}
+use borrow.Author.Tests.{eq-eqb, ne-eqb, le-leb, lt-leb, eqb-true, eqb-false, not-true}
+use Rattle.types.specs.Build.{align, maxChunkSize}
+use Rattle.types.proofs.TestLaws.{decided, eq-or-ne, le-or-lt}
 use Rattle.flash.specs.Operations.{Op, erase, store, opIf}
 use Rattle.slices.proofs.PatchLaws.{length-over, length-patch}
-use Rattle.page.specs.Chunks.{chunkHeader, nextOffset}
-use Rattle.page.specs.Headers.{pageHeader}
-use Rattle.page.proofs.PutLaws.{length-chunkHeader, length-pageHeader}
-use Rattle.writer.specs.Commits.{inGroup, payloadFrom, groupAt, lastGroup, eraseOps, restOps, sealOp, chunkOps, commitOps}
+use Rattle.page.specs.Chunks.{nextOffset}
+use Rattle.writer.specs.Commits.{inGroup, groupAt, lastGroup, restOps, sealOp, chunkOps, commitOps}
 use Rattle.writer.specs.Headings.{headerOps}
-use Rattle.writer.specs.States.{mostPending}
 use Rattle.writer.specs.Writes.{takes, lacking, toGroup, completes, toWhole, wholeAt, groupOf, wholeOf, bufferOf, grown, isFull, closeOps, payloadOps, takingOps, takenOf, writeOps}
 use Rattle.writer.specs.declared.page_writer.PageWriter.{PageWriter}
-use Rattle.writer.proofs.CheckLaws.{Sound}
 use Rattle.writer.proofs.CommitLaws.{last-group}
-use Rattle.writer.proofs.RangeLaws.{taken-room}
-use Rattle.writer.proofs.StoreLaws.{Rising, rising-if, rising-from, rising-append}
+use Rattle.writer.proofs.StoreLaws.{Rising, rising-if, rising-from}
 
 -- ---- the group buffer keeps its length
 
@@ -164,7 +158,7 @@ commit-count e w = by (eqb (w .pending) 0)
 close-count : (e : ℕ) (w : PageWriter) → w .armed ≡ false → length (closeOps e w) ≤ 1
 close-count e w a =
     ⊎-elim
-    (λ (f : isFull w ≡ true). rw (f, full-ops e w a (eqb-true (w .pending) 4076 f)) (omega arith))
+    (λ (f : isFull w ≡ true). rw (f, full-ops e w a (eqb-true (w .pending) maxChunkSize f)) (omega arith))
     (λ (f : isFull w ≡ false). rw f (omega arith))
     (decided (isFull w))
 

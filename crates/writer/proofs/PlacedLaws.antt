@@ -1,19 +1,18 @@
 -- Every call's operations in their order: the erase, the payload's stores, the chunk's header. For a writer in range all lie within
 -- the page, and behind the page header. Assumes nothing.
-use mathlib.Core.Path.{_≡_, refl, sym, ap, _∙_}
-use mathlib.Core.Bool.{Bool, true, false, cond}
-use mathlib.Core.List.{List, [], _∷_, _++_, append-assoc, append-nil}
+use mathlib.Core.Path.{_≡_, refl, ap, _∙_}
+use mathlib.Core.Bool.{true, false}
+use mathlib.Core.List.{List, [], _∷_, _++_}
 use mathlib.Core.Logic.{_⊎_, inl, inr, ⊎-elim}
-use Prim.Native.Nat.{ℕ, _+_, _-_, _*_, _/_, _%_, _≤_, min}
+use Prim.Native.Nat.{ℕ, _+_, _-_, _≤_}
 use native.Mathlib.Omega.{arith}
-use lib.Dec.{eqb}
 use lib.ListN.{length}
 use borrow.Author.Tests.{eq-eqb, ne-eqb, eqb-true}
 use Rattle.types.specs.Build.{pageSize, align, chunkHeaderSize, maxChunkSize}
 use Rattle.types.specs.declared.refusal.Verdict.the-variants.{Fine}
 use Rattle.types.proofs.TestLaws.{decided, eq-or-ne}
 use Rattle.crc.specs.Register.{finished}
-use Rattle.flash.specs.Operations.{Op, erase, store, opIf}
+use Rattle.flash.specs.Operations.{Op, store}
 use Rattle.page.specs.Chunks.{chunkHeader, nextOffset}
 use Rattle.page.specs.Headers.{pageHeader}
 use Rattle.page.proofs.PutLaws.{length-chunkHeader, length-pageHeader}
@@ -23,7 +22,7 @@ use Rattle.writer.specs.States.{firstChunk, mostPending}
 use Rattle.writer.specs.Checks.{headingCheck}
 use Rattle.writer.specs.Writes.{takes, grown, isFull, closeOps, payloadOps, takingOps, takenOf, writeOps}
 use Rattle.writer.specs.declared.page_writer.PageWriter.{PageWriter}
-use Rattle.writer.proofs.CheckLaws.{Sound, heading-passed, sound}
+use Rattle.writer.proofs.CheckLaws.{InRange, heading-checked}
 use Rattle.writer.proofs.PlaceLaws.{payload-rising, rest-rising, full-ops}
 use Rattle.writer.proofs.RangeLaws.{taken-room, taken-some}
 use Rattle.writer.proofs.StoreLaws.{Rising, rising-from, rising-to}
@@ -44,7 +43,7 @@ pending-room o p h n = omega arith
 seal-bytes : (w : PageWriter) → (bytes : List ℕ) × ((_≡_ {A = List Op} (sealOp w ∷ []) (store (w .offset) bytes ∷ [])) × (length bytes ≡ chunkHeaderSize))
 seal-bytes w = (chunkHeader (w .pending) (finished (w .crc)), (refl, length-chunkHeader (w .pending) (finished (w .crc))))
 
-chunk-placed : (e : ℕ) (w : PageWriter) → Sound w → length (w .buf) ≡ align → (w .pending ≡ 0 → ⊥) → Placed e w (chunkOps e w)
+chunk-placed : (e : ℕ) (w : PageWriter) → InRange w → length (w .buf) ≡ align → (w .pending ≡ 0 → ⊥) → Placed e w (chunkOps e w)
 unfolding chunkOps
 chunk-placed e w s four n =
     let fits = pending-room (w .offset) (w .pending) (s .room) n in
@@ -53,12 +52,12 @@ chunk-placed e w s four n =
       seal = sealOp w ∷ [];
       parts = refl;
       behind = s .after;
-      rising = rising-from (w .offset + 8) (groupAt w) 4096 (restOps w) (omega arith)
-          (rising-to (groupAt w) (nextOffset (w .offset) (w .pending)) 4096 (restOps w) (omega arith) (rest-rising w four (s .even)));
+      rising = rising-from (w .offset + 8) (groupAt w) pageSize (restOps w) (omega arith)
+          (rising-to (groupAt w) (nextOffset (w .offset) (w .pending)) pageSize (restOps w) (omega arith) (rest-rising w four (s .even)));
       header = inr (seal-bytes w);
     }
 
-pub commit-placed : (e : ℕ) (w : PageWriter) → Sound w → length (w .buf) ≡ align → (commitOps e w ≡ []) ⊎ Placed e w (commitOps e w)
+pub commit-placed : (e : ℕ) (w : PageWriter) → InRange w → length (w .buf) ≡ align → (commitOps e w ≡ []) ⊎ Placed e w (commitOps e w)
 commit-placed e w s four =
     ⊎-elim (λ (z : w .pending ≡ 0). inl (rw (eq-eqb (w .pending) 0 z)))
     (λ (n : w .pending ≡ 0 → ⊥). inr (rw (ne-eqb (w .pending) 0 n) (chunk-placed e w s four n)))
@@ -69,11 +68,11 @@ close-sealed : (e : ℕ) (w : PageWriter) → w .armed ≡ false
     → (closeOps e w ≡ []) ⊎ ((bytes : List ℕ) × ((closeOps e w ≡ store (w .offset) bytes ∷ []) × (length bytes ≡ chunkHeaderSize)))
 close-sealed e w a =
     ⊎-elim
-    (λ (f : isFull w ≡ true). inr (rw (f, full-ops e w a (eqb-true (w .pending) 4076 f)) (seal-bytes w)))
+    (λ (f : isFull w ≡ true). inr (rw (f, full-ops e w a (eqb-true (w .pending) maxChunkSize f)) (seal-bytes w)))
     (λ (f : isFull w ≡ false). inl (rw f))
     (decided (isFull w))
 
-taking-placed : (e : ℕ) (w : PageWriter) (bytes : List ℕ) → Sound w → length (w .buf) ≡ align → w .offset + chunkHeaderSize + (w .pending + length bytes) ≤ pageSize
+taking-placed : (e : ℕ) (w : PageWriter) (bytes : List ℕ) → InRange w → length (w .buf) ≡ align → w .offset + chunkHeaderSize + (w .pending + length bytes) ≤ pageSize
     → Placed e w (takingOps e w bytes)
 unfolding takingOps
 taking-placed e w bytes s four fits =
@@ -82,12 +81,12 @@ taking-placed e w bytes s four fits =
       seal = closeOps e (grown w bytes);
       parts = refl;
       behind = s .after;
-      rising = rising-from (w .offset + 8) (groupAt w) 4096 (payloadOps w bytes) (omega arith)
-          (rising-to (groupAt w) (groupAt (grown w bytes)) 4096 (payloadOps w bytes) (omega arith) (payload-rising w bytes four));
+      rising = rising-from (w .offset + 8) (groupAt w) pageSize (payloadOps w bytes) (omega arith)
+          (rising-to (groupAt w) (groupAt (grown w bytes)) pageSize (payloadOps w bytes) (omega arith) (payload-rising w bytes four));
       header = close-sealed e (grown w bytes) refl;
     }
 
-pub write-placed : (e : ℕ) (w : PageWriter) (bytes : List ℕ) → Sound w → length (w .buf) ≡ align → (writeOps e w bytes ≡ []) ⊎ Placed e w (writeOps e w bytes)
+pub write-placed : (e : ℕ) (w : PageWriter) (bytes : List ℕ) → InRange w → length (w .buf) ≡ align → (writeOps e w bytes ≡ []) ⊎ Placed e w (writeOps e w bytes)
 write-placed e w bytes s four =
     ⊎-elim (λ (z : takes (length bytes) w ≡ 0). inl (rw (eq-eqb (takes (length bytes) w) 0 z)))
     (λ (n : takes (length bytes) w ≡ 0 → ⊥).
@@ -100,5 +99,5 @@ pub header-placed : (n : ℕ) (e : ℕ) (w : PageWriter) (magic : ℕ) (header :
     → (bytes : List ℕ) × ((headerOps e w magic header ≡ eraseOps e w ++ (store 0 bytes ∷ [])) × (length bytes ≡ firstChunk (w .h)))
 unfolding headerOps
 header-placed n e w magic header v =
-    let m = heading-passed n w (length header) v .1 .0 in
+    let m = heading-checked n w (length header) v .own in
     (pageHeader magic (w .page .0) header, (refl, length-pageHeader magic (w .page .0) header ∙ ap (λ (k : ℕ). 12 + k) m))

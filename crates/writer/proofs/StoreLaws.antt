@@ -2,8 +2,8 @@
 use mathlib.Core.Path.{_≡_, refl, sym, ap, _∙_}
 use mathlib.Core.Bool.{Bool, true, false}
 use mathlib.Core.List.{List, [], _∷_, _++_}
-use Prim.Native.Nat.{ℕ, zero, suc, _+_, _-_, _≤_, _<_}
-use native.Mathlib.Nat.{zero-add, le-refl}
+use Prim.Native.Nat.{ℕ, zero, suc, _+_, _-_, _≤_}
+use native.Mathlib.Nat.{zero-add}
 use native.Mathlib.Omega.{arith}
 use lib.ListN.{length, take, drop, getD, length-take}
 use lib.Seq.{getD-take, getD-drop}
@@ -12,7 +12,7 @@ use Rattle.flash.specs.Operations.{Op, erase, store, opIf, made, applied}
 use Rattle.flash.proofs.PageLaws.{length-made}
 use Rattle.slices.specs.Patch.{patch}
 use Rattle.slices.proofs.PatchLaws.{patch-above, take-patch-below, drop-patch-above}
-use Rattle.page.proofs.BelowLaws.{take-below, drop-above}
+use Rattle.page.proofs.BelowLaws.{take-below}
 use Rattle.writer.specs.Landings.{Erased, Lands}
 
 -- ---- stores one behind the other, from a on and no further than b
@@ -49,7 +49,7 @@ rising-if a b at bytes false f g = g refl
 
 -- one store of the page
 made-store : (at : ℕ) (bytes p : List ℕ) → made 0 (store at bytes) p ≡ patch at (take (pageSize - at) bytes) p
-made-store at bytes p = ap (λ (k : ℕ). patch k (take (4096 - at) bytes) p) (zero-add at)
+made-store at bytes p = ap (λ (k : ℕ). patch k (take (pageSize - at) bytes) p) (zero-add at)
 
 cut-length : (n : ℕ) (bytes : List ℕ) → length (take n bytes) ≤ length bytes
 cut-length n bytes = rw length-take (omega arith)
@@ -63,7 +63,7 @@ rising-below a b (store at bytes ∷ ops) p r =
     take-below a (at + length bytes) (made 0 (store at bytes) p) (applied 0 ops (made 0 (store at bytes) p)) (omega arith)
     (rising-below (at + length bytes) b ops (made 0 (store at bytes) p) (r .1))
     ∙ ap (take a) (made-store at bytes p)
-    ∙ take-patch-below a at (take (4096 - at) bytes) p low
+    ∙ take-patch-below a at (take (pageSize - at) bytes) p low
 
 pub rising-behind : (a b : ℕ) (ops : List Op) (p : List ℕ) → Rising a b ops → drop b (applied 0 ops p) ≡ drop b p
 rising-behind a b [] p r = refl
@@ -72,7 +72,7 @@ rising-behind a b (store at bytes ∷ ops) p r =
     let t = rising-le (at + length bytes) b ops (r .1) in
     rising-behind (at + length bytes) b ops (made 0 (store at bytes) p) (r .1)
     ∙ ap (drop b) (made-store at bytes p)
-    ∙ drop-patch-above b at (take (4096 - at) bytes) p (let l = cut-length (4096 - at) bytes in omega arith)
+    ∙ drop-patch-above b at (take (pageSize - at) bytes) p (let l = cut-length (pageSize - at) bytes in omega arith)
 
 -- ---- bytes that read as erased, and stores on them
 
@@ -101,7 +101,7 @@ rising-lands e a b (store at bytes ∷ ops) p end h r =
         rising-lands e (at + length bytes) b ops (made 0 (store at bytes) p) (rw (length-made 0 (store at bytes) p) end)
             (λ i f g.
             ap (λ (l : List ℕ). getD l i e) (made-store at bytes p)
-            ∙ patch-above at (take (4096 - at) bytes) p i e (let l = cut-length (4096 - at) bytes in omega arith)
+            ∙ patch-above at (take (pageSize - at) bytes) p i e (let l = cut-length (pageSize - at) bytes in omega arith)
             ∙ h i (omega arith) g)
             (r .1),
       ),

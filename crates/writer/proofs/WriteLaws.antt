@@ -59,9 +59,9 @@ taking-ran e left lack first many w next bytes group part v₀ v₁ v₂ v₃ v�
 -- ---- what is taken fits
 
 pub taken-fits : (w : PageWriter) (bytes : List ℕ) (n : ℕ) → n ≡ takes (length bytes) w → w .pending ≤ maxChunkSize → w .pending + length (take n bytes) ≤ maxChunkSize
-taken-fits w bytes n e h = rw length-take (fits (length bytes) (4096 - (w .offset + 8 + w .pending)) (w .pending) n e h)
+taken-fits w bytes n e h = rw length-take (fits (length bytes) (pageSize - (w .offset + 8 + w .pending)) (w .pending) n e h)
   where
-    fits : (l page p n : ℕ) → n ≡ min l (min page (4076 - p)) → p ≤ 4076 → p + min n l ≤ 4076
+    fits : (l page p n : ℕ) → n ≡ min l (min page (maxChunkSize - p)) → p ≤ maxChunkSize → p + min n l ≤ maxChunkSize
     fits l page p n e h = omega arith
 
 pub grown-fits : (w next : PageWriter) (bytes : List ℕ) → next ≡ grown w bytes → w .offset ≤ pageSize → w .pending + length bytes ≤ maxChunkSize
@@ -94,6 +94,6 @@ module _ (e : ℕ) (w : PageWriter) (bytes : List ℕ) (left : ℕ) (xs : List �
       → next ≡ grown w (take n bytes) → Ran (pageStart (w .page .0)) left (takingOps e w (take n bytes)) xs r ys → after ≡ closed next → end ≡ endedBy r after w → out ≡ wrote n end
       → Writes e w bytes left xs out ys
   write-some n r ys next after end out f t z g ran c d o =
-      let whole : Duty = record { verdict = checks; ops = takingOps e w (take n bytes); next = closed (grown w (take n bytes)) } in
+      let whole : Duty = record { check = checks; ops = takingOps e w (take n bytes); next = closed (grown w (take n bytes)) } in
       let q = ends-ran whole w left xs r ys f ran in
       rw (ne-eqb (takes (length bytes) w) 0 (λ k. z (t ∙ k)), ← t, o, d, c, g) (ap (wrote n) (q .0), q .1)

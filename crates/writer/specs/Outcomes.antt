@@ -1,16 +1,12 @@
--- What a call comes to that owes operations (docs/RULES.md, Stores left): refused before its
--- work, done where all of them were made, or cut, and then the writer is as at entry. Assumes nothing.
+-- What a call hands back (docs/RULES.md, Stores left): refused before its work, done where all of its operations were made, or cut, and
+-- then the writer is as at entry. Assumes nothing.
 use mathlib.Core.Bool.{cond}
-use mathlib.Core.List.{List, []}
 use Prim.Native.Nat.{ℕ}
-use lib.ListN.{take}
-use Rattle.types.specs.declared.refusal.Refusal.the-variants.{Cut, BadState}
-use Rattle.types.specs.declared.refusal.Verdict.{Verdict}
-use Rattle.types.specs.declared.refusal.Verdict.the-variants.{Fine, Refused}
-use Rattle.flash.specs.Geometry.{pageStart}
-use Rattle.flash.specs.Operations.{Op, spent, allowed}
+use Rattle.types.specs.Checks.{refusedOr}
+use Rattle.types.specs.declared.refusal.Refusal.{Refusal}
+use Rattle.types.specs.declared.refusal.Refusal.the-variants.{Cut}
 use Rattle.flash.specs.declared.ops.Spent.{Spent}
-use Rattle.writer.specs.States.{inRange}
+use Rattle.writer.specs.Checks.{stateCheck}
 use Rattle.writer.specs.declared.answers.Ended.{Ended}
 use Rattle.writer.specs.declared.answers.Length.{Length}
 use Rattle.writer.specs.declared.answers.Length.the-variants as len
@@ -23,29 +19,18 @@ use Rattle.writer.specs.declared.answers.Taking.the-variants as taking
 use Rattle.writer.specs.declared.answers.Wrote.{Wrote}
 use Rattle.writer.specs.declared.page_writer.PageWriter.{PageWriter}
 
+-- refused by a check: the writer and the stores left are as they were
+abbrev pub refusedAt : PageWriter → ℕ → Refusal → Ended
+refusedAt w left why = record { answer = outcome.Refused why; writer = w; left = left }
+
 -- if all operations were made, the writer is `next`; if one was cut, it is as it was
 abbrev pub endedBy : Spent → PageWriter → PageWriter → Ended
-endedBy run next w =
+endedBy stores next w =
     record {
-      answer = cond (run .ok) outcome.Done (outcome.Refused Cut);
-      writer = cond (run .ok) next w;
-      left = run .left;
+      answer = cond (stores .ok) outcome.Done (outcome.Refused Cut);
+      writer = cond (stores .ok) next w;
+      left = stores .left;
     }
-
--- what a call hands back that owes these operations
-abbrev pub ended : Verdict → List Op → PageWriter → PageWriter → ℕ → Ended
-ended (Refused why) ops next w left = record { answer = outcome.Refused why; writer = w; left = left }
-ended Fine ops next w left = endedBy (spent left ops) next w
-
--- the flash after it
-abbrev pub endedFlash : Verdict → List Op → PageWriter → ℕ → List ℕ → List ℕ
-endedFlash (Refused why) ops w left xs = xs
-endedFlash Fine ops w left xs = allowed (pageStart (w .page .0)) left ops xs
-
--- the operations that it makes
-abbrev pub endedOps : Verdict → List Op → ℕ → List Op
-endedOps (Refused why) ops left = []
-endedOps Fine ops left = take left ops
 
 -- a write that is done answers the number of bytes that it took
 abbrev pub took : ℕ → Outcome → Taking
@@ -58,7 +43,7 @@ wrote n e = record { answer = took n (e .answer); writer = e .writer; left = e .
 -- ---- the calls without a flash: 11, or a number of the state
 
 abbrev pub lengthOf : PageWriter → Length
-lengthOf w = cond (inRange w) (len.Bytes (w .total)) (len.Refused BadState)
+lengthOf w = refusedOr (stateCheck w) len.Refused (len.Bytes (w .total))
 
 abbrev pub pageId : PageWriter → PageOf
-pageId w = cond (inRange w) (of.Page (w .page)) (of.Refused BadState)
+pageId w = refusedOr (stateCheck w) of.Refused (of.Page (w .page))

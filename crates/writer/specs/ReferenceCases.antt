@@ -6,9 +6,10 @@ use Prim.Native.Nat.{ℕ, _+_}
 use lib.ListN.{length, take, drop, replicate}
 use Rattle.types.specs.Answers.{Told, answered}
 use Rattle.types.specs.Build.{pageSize}
+use Rattle.types.specs.Histories.{leftAfter, toldByEach}
 use Rattle.flash.specs.Operations.{Op, erase, store}
 use Rattle.slices.specs.Patch.{blank}
-use Rattle.writer.specs.Calls.{Call, openPage, openAppend, writeHeader, write, commit, World, answerTo, madeBy, leftBy, leftAfter}
+use Rattle.writer.specs.Calls.{World, AddCall, writes, commits, heads, Call, openPage, openAppend, adds, answerTo, madeBy, leftBy}
 use Rattle.writer.specs.States.{newWriter}
 
 -- where a store or an erase lies in the page
@@ -55,15 +56,14 @@ outcomeOf x c =
       pending = leftBy x c .writer .pending;
     }
 
-unfoldable pub outcomesFrom : World → List Step → List Outcome
-outcomesFrom x [] = []
-outcomesFrom x (s ∷ steps) = outcomeOf x (s .call) ∷ outcomesFrom (leftBy x (s .call)) steps
+abbrev pub callsOf : Case → List Call
+callsOf c = map (λ (s : Step). s .call) (c .steps)
 
 unfoldable pub resultOf : Case → Result
 resultOf c =
     record {
-      outcomes = outcomesFrom start (c .steps);
-      bytes = take (length (c .bytes)) (drop (c .from) (leftAfter start (map (λ (s : Step). s .call) (c .steps)) .flash));
+      outcomes = toldByEach leftBy outcomeOf start (callsOf c);
+      bytes = take (length (c .bytes)) (drop (c .from) (leftAfter leftBy start (callsOf c) .flash));
     }
 
 unfoldable pub expected : Case → Result
@@ -74,23 +74,27 @@ expected c = record { outcomes = map (λ (s : Step). s .gives) (c .steps); bytes
 abbrev pub place : ℕ → ℕ → Extent
 place from size = record { from = from; size = size }
 
+-- an opening is done: it stores nothing, and the writer is at this offset
+abbrev pub opens : Call → ℕ → Step
+opens call offset = record { call = call; gives = record { told = answered []; stores = []; offset = offset; pending = 0 } }
+
 -- a call is answered, with these values, stores, offset and pending bytes
-abbrev pub gives : Call → List ℕ → List Extent → ℕ → ℕ → Step
+abbrev pub gives : AddCall → List ℕ → List Extent → ℕ → ℕ → Step
 gives call values stores offset pending =
-    record { call = call; gives = record { told = answered values; stores = stores; offset = offset; pending = pending } }
+    record { call = adds call; gives = record { told = answered values; stores = stores; offset = offset; pending = pending } }
 
 -- a call is cut
-abbrev pub cut : Call → List Extent → ℕ → ℕ → Step
+abbrev pub cut : AddCall → List Extent → ℕ → ℕ → Step
 cut call stores offset pending =
     record {
-      call = call;
+      call = adds call;
       gives = record { told = record { number = 9; values = [] }; stores = stores; offset = offset; pending = pending };
     }
 
 -- a page with its header, and further calls
 abbrev pub withHeader : List Step → List Step
 withHeader steps =
-    gives (openPage 0 2) [] [] 12 0 ∷ gives (writeHeader 0xA1 []) [] (place 0 4096 ∷ place 0 12 ∷ []) 12 0 ∷ steps
+    opens (openPage 0 2) 12 ∷ gives (heads 0xA1 []) [] (place 0 4096 ∷ place 0 12 ∷ []) 12 0 ∷ steps
 
 -- magic 0xA1, page 0, h 0: A1 00 00 00, then eight 00
 abbrev pub header : Case
@@ -104,10 +108,10 @@ abbrev pub oneAdded : Case
 oneAdded =
     record {
       steps = withHeader
-          (gives (openAppend 0 2) [] [] 12 0
-          ∷ gives (write four) (4 ∷ []) (place 20 4 ∷ []) 12 4
-          ∷ gives commit [] (place 12 8 ∷ []) 24 0
-          ∷ gives (openAppend 0 0) [] [] 24 0
+          (opens (openAppend 0 2) 12
+          ∷ gives (writes four) (4 ∷ []) (place 20 4 ∷ []) 12 4
+          ∷ gives commits [] (place 12 8 ∷ []) 24 0
+          ∷ opens (openAppend 0 0) 24
           ∷ []);
       from = 12;
       bytes = 0xC5 ∷ 0x59 ∷ 0x04 ∷ 0x00 ∷ replicate 8 0xFF;
@@ -118,10 +122,10 @@ abbrev pub oneCut : Case
 oneCut =
     record {
       steps = withHeader
-          (gives (openAppend 0 1) [] [] 12 0
-          ∷ gives (write four) (4 ∷ []) (place 20 4 ∷ []) 12 4
-          ∷ cut commit [] 12 4
-          ∷ gives (openAppend 0 0) [] [] 12 0
+          (opens (openAppend 0 1) 12
+          ∷ gives (writes four) (4 ∷ []) (place 20 4 ∷ []) 12 4
+          ∷ cut commits [] 12 4
+          ∷ opens (openAppend 0 0) 12
           ∷ []);
       from = 12;
       bytes = replicate 12 0xFF;
@@ -132,11 +136,11 @@ abbrev pub zeroCut : Case
 zeroCut =
     record {
       steps = withHeader
-          (gives (openAppend 0 1) [] [] 12 0
-          ∷ gives (write (0x00 ∷ [])) (1 ∷ []) [] 12 1
-          ∷ cut commit (place 20 4 ∷ []) 12 1
-          ∷ gives (openAppend 0 1) [] [] 4096 0
-          ∷ gives (write (0x00 ∷ [])) (0 ∷ []) [] 4096 0
+          (opens (openAppend 0 1) 12
+          ∷ gives (writes (0x00 ∷ [])) (1 ∷ []) [] 12 1
+          ∷ cut commits (place 20 4 ∷ []) 12 1
+          ∷ opens (openAppend 0 1) 4096
+          ∷ gives (writes (0x00 ∷ [])) (0 ∷ []) [] 4096 0
           ∷ []);
       from = 12;
       bytes = replicate 8 0xFF;
@@ -144,37 +148,37 @@ zeroCut =
 
 -- a page opened with h, and further calls
 abbrev pub onEmpty : ℕ → List Step → Case
-onEmpty h steps = record { steps = gives (openPage h 9) [] [] (12 + h) 0 ∷ steps; from = 0; bytes = [] }
+onEmpty h steps = record { steps = opens (openPage h 9) (12 + h) ∷ steps; from = 0; bytes = [] }
 
 -- h 0: write of 4077 takes 4076 and commits
 abbrev pub full : Case
-full = onEmpty 0 (gives (write (replicate 4077 0x00)) (4076 ∷ []) (place 0 4096 ∷ place 20 4076 ∷ place 12 8 ∷ []) 4096 0 ∷ [])
+full = onEmpty 0 (gives (writes (replicate 4077 0x00)) (4076 ∷ []) (place 0 4096 ∷ place 20 4076 ∷ place 12 8 ∷ []) 4096 0 ∷ [])
 
 -- of 4075 stays pending
 abbrev pub notFull : Case
-notFull = onEmpty 0 (gives (write (replicate 4075 0x00)) (4075 ∷ []) (place 0 4096 ∷ place 20 4072 ∷ []) 12 4075 ∷ [])
+notFull = onEmpty 0 (gives (writes (replicate 4075 0x00)) (4075 ∷ []) (place 0 4096 ∷ place 20 4072 ∷ []) 12 4075 ∷ [])
 
 -- h 4: write of 4073 takes 4072 and doesn't commit
 abbrev pub higherHeader : Case
-higherHeader = onEmpty 4 (gives (write (replicate 4073 0x00)) (4072 ∷ []) (place 0 4096 ∷ place 24 4072 ∷ []) 16 4072 ∷ [])
+higherHeader = onEmpty 4 (gives (writes (replicate 4073 0x00)) (4072 ∷ []) (place 0 4096 ∷ place 24 4072 ∷ []) 16 4072 ∷ [])
 
 -- write at offset 4088 takes 0
 abbrev pub at4088 : Case
 at4088 =
     onEmpty 0
-    (gives (write (replicate 4068 0x00)) (4068 ∷ []) (place 0 4096 ∷ place 20 4068 ∷ []) 12 4068
-    ∷ gives commit [] (place 12 8 ∷ []) 4088 0
-    ∷ gives (write (0x00 ∷ [])) (0 ∷ []) [] 4088 0
+    (gives (writes (replicate 4068 0x00)) (4068 ∷ []) (place 0 4096 ∷ place 20 4068 ∷ []) 12 4068
+    ∷ gives commits [] (place 12 8 ∷ []) 4088 0
+    ∷ gives (writes (0x00 ∷ [])) (0 ∷ []) [] 4088 0
     ∷ [])
 
 -- at 4084 up to 4
 abbrev pub at4084 : Case
 at4084 =
     onEmpty 0
-    (gives (write (replicate 4064 0x00)) (4064 ∷ []) (place 0 4096 ∷ place 20 4064 ∷ []) 12 4064
-    ∷ gives commit [] (place 12 8 ∷ []) 4084 0
-    ∷ gives (write (replicate 5 0x00)) (4 ∷ []) (place 4092 4 ∷ []) 4084 4
-    ∷ gives (write (0x00 ∷ [])) (0 ∷ []) [] 4084 4
+    (gives (writes (replicate 4064 0x00)) (4064 ∷ []) (place 0 4096 ∷ place 20 4064 ∷ []) 12 4064
+    ∷ gives commits [] (place 12 8 ∷ []) 4084 0
+    ∷ gives (writes (replicate 5 0x00)) (4 ∷ []) (place 4092 4 ∷ []) 4084 4
+    ∷ gives (writes (0x00 ∷ [])) (0 ∷ []) [] 4084 4
     ∷ [])
 
 unfoldable pub referenceCases : List Case

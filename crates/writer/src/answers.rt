@@ -7,13 +7,6 @@ use crate::page_writer::PageWriter;
 use types::answers::Outcome;
 use types::refusal::Refusal;
 
-// The answer of open and open_append.
-pub struct Opened {
-    pub answer: Outcome,
-    pub writer: PageWriter,
-    pub left: usize,
-}
-
 // The answer of write: how many bytes it took.
 pub enum Taking {
     Took(usize),
@@ -47,7 +40,7 @@ pub struct Wrote {
     pub left: usize,
 }
 
-// The answer of commit and write_header.
+// The answer of open, open_append, commit and write_header.
 pub struct Ended {
     pub answer: Outcome,
     pub writer: PageWriter,

@@ -1,7 +1,7 @@
-// What is checked before a call's work.
+// The checks before a call's work, in their order, 5, 6, 11, 4 (docs/RULES.md, Order of checks).
 use crate::page_writer::PageWriter;
 use flash::geometry::check_flash;
-use flash::geometry::has_page;
+use page::checks::check_page;
 use page::header::check_header;
 use types::config::ALIGN;
 use types::config::CHUNK_HEADER_SIZE;
@@ -11,12 +11,11 @@ use types::config::PAGE_HEADER_SIZE;
 use types::config::PAGE_SIZE;
 use types::num::min;
 use types::num::minus;
-use types::page_id::PageID;
 use types::refusal::Refusal;
 use types::refusal::Verdict;
 ghost use mathlib.Core.Path.{_≡_};
 ghost use Rattle.writer.specs.States.{inRange};
-ghost use Rattle.writer.specs.Checks.{firstOf, stateCheck, pageCheck, lengthCheck, writerCheck, headingCheck, openCheck};
+ghost use Rattle.writer.specs.Checks.{stateCheck, lengthCheck, writerCheck, headingCheck};
 
 // Whether the state is in its ranges.
 pub(crate) fn in_range(w: PageWriter) -> bool
@@ -41,16 +40,6 @@ pub(crate) fn in_range(w: PageWriter) -> bool
         & (old <= used)
 }
 
-// The first of two checks that refuses.
-fn first(a: Verdict, b: Verdict) -> Verdict
-    ensures answers { λ r. ⌜ r ≡ firstOf a b ⌝ }
-{
-    match a {
-        Verdict::Fine => b,
-        Verdict::Refused(why) => Verdict::Refused(why),
-    }
-}
-
 fn check_state(w: PageWriter) -> Verdict
     ensures answers { λ r. ⌜ r ≡ stateCheck w ⌝ }
 {
@@ -58,16 +47,6 @@ fn check_state(w: PageWriter) -> Verdict
         Verdict::Fine
     } else {
         Verdict::Refused(Refusal::BadState)
-    }
-}
-
-fn check_page(bytes: usize, page: PageID) -> Verdict
-    ensures answers { λ r. ⌜ r ≡ pageCheck bytes (page .0) ⌝ }
-{
-    if has_page(bytes, page) {
-        Verdict::Fine
-    } else {
-        Verdict::Refused(Refusal::OutOfRange)
     }
 }
 
@@ -85,28 +64,29 @@ fn check_length(m: usize, h: usize) -> Verdict
 pub(crate) fn check_writer(bytes: usize, w: PageWriter) -> Verdict
     ensures answers { λ r. ⌜ r ≡ writerCheck bytes w ⌝ }
 {
+    if let Verdict::Refused(why) = check_flash(bytes) {
+        return Verdict::Refused(why);
+    }
+    if let Verdict::Refused(why) = check_state(w) {
+        return Verdict::Refused(why);
+    }
     let page = w.page;
-    first(
-        check_flash(bytes),
-        first(check_state(w), check_page(bytes, page)),
-    )
+    check_page(bytes, page)
 }
 
 // The checks of write_header with m bytes.
 pub(crate) fn check_heading(bytes: usize, w: PageWriter, m: usize) -> Verdict
     ensures answers { λ r. ⌜ r ≡ headingCheck bytes w m ⌝ }
 {
+    if let Verdict::Refused(why) = check_flash(bytes) {
+        return Verdict::Refused(why);
+    }
+    if let Verdict::Refused(why) = check_length(m, w.h) {
+        return Verdict::Refused(why);
+    }
+    if let Verdict::Refused(why) = check_state(w) {
+        return Verdict::Refused(why);
+    }
     let page = w.page;
-    let place = first(check_state(w), check_page(bytes, page));
-    first(check_flash(bytes), first(check_length(m, w.h), place))
-}
-
-// The checks of open and open_append.
-pub(crate) fn check_open(bytes: usize, page: PageID, h: usize) -> Verdict
-    ensures answers { λ r. ⌜ r ≡ openCheck bytes (page .0) h ⌝ }
-{
-    first(
-        check_flash(bytes),
-        first(check_header(h), check_page(bytes, page)),
-    )
+    check_page(bytes, page)
 }

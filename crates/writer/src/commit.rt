@@ -89,7 +89,7 @@ impl PageWriter {
                 left,
             };
         }
-        let run = finish_chunk(true, self, flash, left);
-        ended_by(run, next_chunk(self), self)
+        let stores = finish_chunk(true, self, flash, left);
+        ended_by(stores, next_chunk(self), self)
     }
 }

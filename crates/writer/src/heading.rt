@@ -71,9 +71,9 @@ impl PageWriter {
                 left,
             };
         }
-        let run = head_page(self, flash, magic, header, left);
+        let stores = head_page(self, flash, magic, header, left);
         let mut next = self;
         next.armed = false;
-        ended_by(run, next, self)
+        ended_by(stores, next, self)
     }
 }

@@ -1,8 +1,8 @@
 // Opening a page, to write it anew or to add to it.
-use crate::answers::Opened;
-use crate::checks::check_open;
+use crate::answers::Ended;
 use crate::page_writer::PageWriter;
 use flash::geometry::page_of;
+use page::checks::check_open;
 use page::walk::Ending;
 use page::walk::all_erased;
 use page::walk::walk_end;
@@ -31,17 +31,17 @@ fn resume_at(page: &[u8], end: usize) -> usize
 
 impl PageWriter {
     // Opens a page to write it anew. It is erased before the first store.
-    pub fn open(self, flash: &[u8], page: PageID, h: usize, left: usize) -> Opened
+    pub fn open(self, flash: &[u8], page: PageID, h: usize, left: usize) -> Ended
         ensures answers { λ r. ⌜ r ≡ opened (now (flash .entry)) page h self left ⌝ }
     {
-        if let Verdict::Refused(why) = check_open(flash.len(), page, h) {
-            return Opened {
+        if let Verdict::Refused(why) = check_open(flash.len(), h, page) {
+            return Ended {
                 answer: Outcome::Refused(why),
                 writer: self,
                 left,
             };
         }
-        Opened {
+        Ended {
             answer: Outcome::Done,
             writer: PageWriter::fresh(true, page, h, PAGE_HEADER_SIZE + h),
             left,
@@ -49,11 +49,11 @@ impl PageWriter {
     }
 
     // Opens a page to add chunks behind those that it has.
-    pub fn open_append(self, flash: &[u8], page: PageID, h: usize, left: usize) -> Opened
+    pub fn open_append(self, flash: &[u8], page: PageID, h: usize, left: usize) -> Ended
         ensures answers { λ r. ⌜ r ≡ appended eraseValue (now (flash .entry)) page h self left ⌝ }
     {
-        if let Verdict::Refused(why) = check_open(flash.len(), page, h) {
-            return Opened {
+        if let Verdict::Refused(why) = check_open(flash.len(), h, page) {
+            return Ended {
                 answer: Outcome::Refused(why),
                 writer: self,
                 left,
@@ -61,14 +61,14 @@ impl PageWriter {
         }
         let bytes = page_of(flash, page);
         let Ending::EndAt(end) = walk_end(bytes, PAGE_HEADER_SIZE + h) else {
-            return Opened {
+            return Ended {
                 answer: Outcome::Refused(Refusal::Corrupted),
                 writer: self,
                 left,
             };
         };
         let at = resume_at(bytes, end);
-        Opened {
+        Ended {
             answer: Outcome::Done,
             writer: PageWriter::fresh(false, page, h, at),
             left,

@@ -10,20 +10,20 @@ ghost use mathlib.Core.Path.{_≡_};
 ghost use Rattle.writer.specs.Outcomes.{endedBy, wrote};
 
 // If all operations were made, the writer is `next`; if one was cut, it is as it was.
-pub(crate) fn ended_by(run: Spent, next: PageWriter, w: PageWriter) -> Ended
-    ensures answers { λ r. ⌜ r ≡ endedBy run next w ⌝ }
+pub(crate) fn ended_by(stores: Spent, next: PageWriter, w: PageWriter) -> Ended
+    ensures answers { λ r. ⌜ r ≡ endedBy stores next w ⌝ }
 {
-    if run.ok {
+    if stores.ok {
         Ended {
             answer: Outcome::Done,
             writer: next,
-            left: run.left,
+            left: stores.left,
         }
     } else {
         Ended {
             answer: Outcome::Refused(Refusal::Cut),
             writer: w,
-            left: run.left,
+            left: stores.left,
         }
     }
 }

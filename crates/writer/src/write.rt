@@ -143,7 +143,7 @@ impl PageWriter {
         }
         let part = &bytes[..n];
         let next = grown(self, part);
-        let run = take_bytes(self, next, flash, part, left);
-        wrote(n, ended_by(run, closed(next), self))
+        let stores = take_bytes(self, next, flash, part, left);
+        wrote(n, ended_by(stores, closed(next), self))
     }
 }

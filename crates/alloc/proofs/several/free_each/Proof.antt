@@ -26,11 +26,11 @@ check-state-requires c κs = search needs
 enum-known-why : tie.Need-enum-known-why Inv-loop μ-loop
 enum-known-why c = search needs
 
-refused-requires : tie.Need-refused-requires Inv-loop μ-loop
-refused-requires c κs = search needs
+refused-change-requires : tie.Need-refused-change-requires Inv-loop μ-loop
+refused-change-requires c κs = search needs
 
 returns : tie.Need-returns Inv-loop μ-loop
-returns c = c .refused .ensures ∙ refused-free _ _ _ (sym (c .before .before .before .before .check-state .ensures) ∙ c .before .before .why .given .1)
+returns c = c .refused-change .ensures ∙ refused-free _ _ _ (sym (c .before .before .before .before .check-state .ensures) ∙ c .before .before .why .given .1)
 
 enum-told : tie.Need-enum-told Inv-loop μ-loop
 enum-told c = search needs
@@ -51,15 +51,15 @@ shared-slice-read-p c = c .before .loop-test .taken
 cast-p : tie.Need-cast-p Inv-loop μ-loop
 cast-p c = omega (arith, c .shared-slice-known2 .given (c .before .before .loop .i))
 
-refused-requires-2 : tie.Need-refused-requires-2 Inv-loop μ-loop
-refused-requires-2 c κs = search needs
+refused-change-requires-2 : tie.Need-refused-change-requires-2 Inv-loop μ-loop
+refused-change-requires-2 c κs = search needs
 
 returns-2 : tie.Need-returns-2 Inv-loop μ-loop
 returns-2 c =
     let at-loop-test = c .before .before .before .before in
     let at-loop = at-loop-test .before in
     let at-fine = at-loop .before .before in
-    c .refused2 .ensures ∙ past _ _ _ _ (at-loop .loop .inv) (fine at-fine) (at-loop-test .loop-test .taken) (c .before .if1 .taken)
+    c .refused-change2 .ensures ∙ past _ _ _ _ (at-loop .loop .inv) (fine at-fine) (at-loop-test .loop-test .taken) (c .before .if1 .taken)
 
 slice-aggregate-is-marked : tie.Need-slice-aggregate-is-marked Inv-loop μ-loop
 slice-aggregate-is-marked c = search needs
@@ -76,8 +76,8 @@ known c = c .loop .inv .sound .1
 is-marked-requires : tie.Need-is-marked-requires Inv-loop μ-loop
 is-marked-requires c κs = (search needs, omega (arith, c .before .if1 .left, known (c .before .before .before .before .before) .few))
 
-refused-requires-3 : tie.Need-refused-requires-3 Inv-loop μ-loop
-refused-requires-3 c κs = search needs
+refused-change-requires-3 : tie.Need-refused-change-requires-3 Inv-loop μ-loop
+refused-change-requires-3 c κs = search needs
 
 returns-3 : tie.Need-returns-3 Inv-loop μ-loop
 returns-3 c =
@@ -85,7 +85,7 @@ returns-3 c =
     let at-loop-test = at-if1 .before .before .before in
     let at-loop = at-loop-test .before in
     let at-fine = at-loop .before .before in
-    c .refused3 .ensures
+    c .refused-change3 .ensures
     ∙ free-already _ _ _ _ (at-loop .loop .inv) (fine at-fine) (at-loop-test .loop-test .taken) (at-if1 .if1 .left)
     (sym (c .before .before .is-marked .ensures) ∙ not-true _ (c .before .if2 .taken))
 
@@ -143,18 +143,18 @@ free-each-spec =
     μ-loop
     check-state-requires
     enum-known-why
-    refused-requires
+    refused-change-requires
     returns
     enum-told
     loop-holds
     mul-p
     shared-slice-read-p
     cast-p
-    refused-requires-2
+    refused-change-requires-2
     returns-2
     slice-aggregate-is-marked
     is-marked-requires
-    refused-requires-3
+    refused-change-requires-3
     returns-3
     slice-aggregate-unmark
     unmark-requires

@@ -9,7 +9,6 @@ use Rattle.types.specs.declared.refusal.Verdict.the-variants.{Fine}
 use Rattle.alloc.specs.Calls.{nextFree}
 use Rattle.alloc.specs.Checks.{stateCheck}
 use Rattle.alloc.specs.Marks.{isMarked}
-use Rattle.alloc.specs.Several.{allocateEach, placesAfter}
 use Rattle.alloc.specs.declared.allocator.Allocator.{Allocator}
 use Rattle.alloc.proofs.HandedLaws.{found-free}
 use Rattle.alloc.proofs.SeveralLaws.{stateOf, Handing, hand-begun, hand-on, no-page, no-place, refused-each}

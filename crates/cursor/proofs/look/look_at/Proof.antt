@@ -30,8 +30,8 @@ returns-2 c = c .without .ensures ∙ look-without _ _ _ _ _ _ _ (c .before .bef
 key-in-requires : tie.Need-key-in-requires
 key-in-requires c κs = search needs
 
-past-requires : tie.Need-past-requires
-past-requires c κs = search needs
+is-past-requires : tie.Need-is-past-requires
+is-past-requires c κs = search needs
 
 returns-3 : tie.Need-returns-3
 returns-3 c =
@@ -40,7 +40,7 @@ returns-3 c =
     let headed = matched .before .before in
     let placed = headed .before .before in
     look-past _ _ _ _ _ _ _ (placed .place .given .1) _ (headed .head-at .ensures) _ (matched .head .given .1) _ (keyed .key-in .ensures) _
-    (c .before .past .ensures) (c .if1 .taken)
+    (c .before .is-past .ensures) (c .if1 .taken)
 
 against-requires : tie.Need-against-requires
 against-requires c κs = search needs
@@ -65,7 +65,7 @@ returns-4 c =
     let headed = matched .before .before in
     let placed = headed .before .before in
     look-by _ _ _ _ _ _ _ (placed .place .given .1) _ (headed .head-at .ensures) _ (matched .head .given .1) _ (keyed .key-in .ensures) _
-    (bounded .past .ensures) (first-test .if1 .left) _ _ (held .against .ensures) (c .enum-told2 .given .1)
+    (bounded .is-past .ensures) (first-test .if1 .left) _ _ (held .against .ensures) (c .enum-told2 .given .1)
 
 returns-5 : tie.Need-returns-5
 unfolding lookBy
@@ -78,7 +78,7 @@ returns-5 c =
     let headed = matched .before .before in
     let placed = headed .before .before in
     look-by _ _ _ _ _ _ _ (placed .place .given .1) _ (headed .head-at .ensures) _ (matched .head .given .1) _ (keyed .key-in .ensures) _
-    (bounded .past .ensures) (first-test .if1 .left) _ _ (held .against .ensures) (c .enum-told3 .given .1)
+    (bounded .is-past .ensures) (first-test .if1 .left) _ _ (held .against .ensures) (c .enum-told3 .given .1)
 
 returns-6 : tie.Need-returns-6
 unfolding lookBy
@@ -91,7 +91,7 @@ returns-6 c =
     let headed = matched .before .before in
     let placed = headed .before .before in
     look-by _ _ _ _ _ _ _ (placed .place .given .1) _ (headed .head-at .ensures) _ (matched .head .given .1) _ (keyed .key-in .ensures) _
-    (bounded .past .ensures) (first-test .if1 .left) _ _ (held .against .ensures) (c .enum-told4 .given .1)
+    (bounded .is-past .ensures) (first-test .if1 .left) _ _ (held .against .ensures) (c .enum-told4 .given .1)
 
 pub look-at-spec : {M : Type 1} → statement M
 look-at-spec =
@@ -105,7 +105,7 @@ look-at-spec =
     without-requires
     returns-2
     key-in-requires
-    past-requires
+    is-past-requires
     returns-3
     against-requires
     enum-told-2

@@ -2,6 +2,7 @@
 use Prim.Native.Nat.{_+_, _≤_, _<_}
 use mathlib.Core.Path.{sym, _∙_}
 use native.Mathlib.Omega.{arith}
+use Rattle.types.specs.Build.{pageSize}
 use Rattle.page.proofs.ChunkLaws.{chunk-past, chunk-short, chunk-unmarked, chunk-long, chunk-over, chunk-missing, chunk-whole}
 use borrow.Author.Needs.{needs}
 use Rattle.page.proofs.chunk.chunk_at.Statement.{statement}
@@ -14,7 +15,7 @@ returns : tie.Need-returns
 returns c =
     let start = c .before .before in
     let a = start .args in
-    let h : 4096 < a .at + 8 = omega arith in
+    let h : pageSize < a .at + 8 = omega arith in
     sym (chunk-past (a .page .now) (a .at) h)
 
 add-if2 : tie.Need-add-if2
@@ -47,7 +48,7 @@ returns-4 c =
     let at-mark = c .before .before in
     let start = at-mark .before .before .before .before .before in
     let a = start .args in
-    let room : a .at + 8 ≤ 4096 = omega arith in
+    let room : a .at + 8 ≤ pageSize = omega arith in
     let mark = sym (at-mark .before .get16 .ensures) ∙ at-mark .if3 .left in
     sym (chunk-long (a .page .now) (a .at) room (at-mark .before .before .if2 .left) mark (rw (c .before .get162 .ensures) at (c .if4 .taken)))
 
@@ -62,7 +63,7 @@ returns-5 c =
     let at-mark = c .before .before .before in
     let start = at-mark .before .before .before .before .before in
     let a = start .args in
-    let room : a .at + 8 ≤ 4096 = omega arith in
+    let room : a .at + 8 ≤ pageSize = omega arith in
     let mark = sym (at-mark .before .get16 .ensures) ∙ at-mark .if3 .left in
     let len = c .before .before .get162 .ensures in
     sym (chunk-over (a .page .now) (a .at) room (at-mark .before .before .if2 .left) mark (rw len at (c .before .if4 .left)) (rw len at (c .if5 .taken)))
@@ -72,7 +73,7 @@ returns-6 c =
     let at-mark = c .before .before .before .before in
     let start = at-mark .before .before .before .before .before in
     let a = start .args in
-    let room : a .at + 8 ≤ 4096 = omega arith in
+    let room : a .at + 8 ≤ pageSize = omega arith in
     let mark = sym (at-mark .before .get16 .ensures) ∙ at-mark .if3 .left in
     let len = c .before .before .before .get162 .ensures in
     sym (chunk-missing (a .page .now) (a .at) room (at-mark .before .before .if2 .left) mark (rw len at (c .before .before .if4 .left))
@@ -96,7 +97,7 @@ returns-7 c =
     let at-mark = at-end .before .before .before .before in
     let start = at-mark .before .before .before .before .before in
     let a = start .args in
-    let room : a .at + 8 ≤ 4096 = omega arith in
+    let room : a .at + 8 ≤ pageSize = omega arith in
     let mark = sym (at-mark .before .get16 .ensures) ∙ at-mark .if3 .left in
     let len = at-end .before .before .before .get162 .ensures in
     rw (c .align-up .ensures, c .before .get32 .ensures, len)

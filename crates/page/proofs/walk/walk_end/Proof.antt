@@ -3,6 +3,7 @@ use Prim.Native.Nat.{_-_}
 use mathlib.Core.Path.{_≡_, refl, sym, ap, _∙_}
 use native.Mathlib.Omega.{arith}
 use borrow.Author.Needs.{needs}
+use Rattle.types.specs.Build.{pageSize}
 use Rattle.page.specs.Chunks.{chunkAt}
 use Rattle.page.specs.Walks.{Walked, walkEnd}
 use Rattle.page.specs.declared.chunk.Step.the-variants.{Chunk}
@@ -15,7 +16,7 @@ abbrev Inv-loop : tie.InvT-loop
 Inv-loop page from at₀ at = walkEnd page at ≡ walkEnd page from
 
 abbrev μ-loop : tie.MeasureT-loop
-μ-loop page from at₀ at = 4096 - at
+μ-loop page from at₀ at = pageSize - at
 
 loop-holds : tie.Need-loop-holds Inv-loop μ-loop
 loop-holds c = refl

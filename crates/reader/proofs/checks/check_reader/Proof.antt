@@ -1,8 +1,10 @@
 use mathlib.Core.Path.{sym, _∙_}
+use Rattle.types.specs.Checks.{asking}
 use Rattle.types.specs.declared.refusal.Refusal.the-variants.{BadFlash, BadState}
+use Rattle.types.proofs.CheckLaws.{asking-refused, asking-later}
 use Rattle.flash.specs.Geometry.{flashFine}
-use Rattle.reader.specs.Checks.{inRange, asking, pageCheck, readerCheck}
-use Rattle.reader.proofs.CheckLaws.{asked-no, asked-yes}
+use Rattle.page.specs.Checks.{pageCheck}
+use Rattle.reader.specs.Checks.{inRange, readerCheck}
 use borrow.Author.Needs.{needs}
 use Rattle.reader.proofs.checks.check_reader.Statement.{statement}
 use Rattle.reader.proofs.checks.check_reader.Tie as tie
@@ -19,7 +21,7 @@ returns c =
     let at-check-flash = c .before .before .before in
     let start = at-check-flash .before in
     let a = start .args in
-    sym (asked-no (flashFine (a .bytes)) BadFlash (c .before .why .given .0 .0) (asking (inRange (a .r)) BadState (pageCheck (a .bytes) (a .r .page)))
+    sym (asking-refused (flashFine (a .bytes)) BadFlash (c .before .why .given .0 .0) (asking (inRange (a .r)) BadState (pageCheck (a .bytes) (a .r .page)))
     (sym (at-check-flash .check-flash .ensures) ∙ c .before .why .given .1))
 
 enum-told : tie.Need-enum-told
@@ -39,9 +41,9 @@ returns-2 c =
     let at-check-flash = at-enum-told .before .before in
     let start = at-check-flash .before in
     let a = start .args in
-    sym (asked-yes (flashFine (a .bytes)) BadFlash (asking (inRange (a .r)) BadState (pageCheck (a .bytes) (a .r .page)))
+    sym (asking-later (flashFine (a .bytes)) BadFlash (asking (inRange (a .r)) BadState (pageCheck (a .bytes) (a .r .page)))
     (sym (at-check-flash .check-flash .ensures) ∙ at-enum-told .enum-told .given .1)
-    ∙ asked-no (inRange (a .r)) BadState (c .before .why2 .given .0 .0) (pageCheck (a .bytes) (a .r .page)) (sym (at-check-state .check-state .ensures) ∙ c .before .why2 .given .1))
+    ∙ asking-refused (inRange (a .r)) BadState (c .before .why2 .given .0 .0) (pageCheck (a .bytes) (a .r .page)) (sym (at-check-state .check-state .ensures) ∙ c .before .why2 .given .1))
 
 enum-told-2 : tie.Need-enum-told-2
 enum-told-2 c = search needs
@@ -58,9 +60,9 @@ returns-3 c =
     let start = at-check-flash .before in
     let a = start .args in
     c .check-page .ensures
-    ∙ sym (asked-yes (flashFine (a .bytes)) BadFlash (asking (inRange (a .r)) BadState (pageCheck (a .bytes) (a .r .page)))
+    ∙ sym (asking-later (flashFine (a .bytes)) BadFlash (asking (inRange (a .r)) BadState (pageCheck (a .bytes) (a .r .page)))
     (sym (at-check-flash .check-flash .ensures) ∙ at-enum-told .enum-told .given .1)
-    ∙ asked-yes (inRange (a .r)) BadState (pageCheck (a .bytes) (a .r .page)) (sym (at-check-state .check-state .ensures) ∙ c .before .before .enum-told2 .given .1))
+    ∙ asking-later (inRange (a .r)) BadState (pageCheck (a .bytes) (a .r .page)) (sym (at-check-state .check-state .ensures) ∙ c .before .before .enum-told2 .given .1))
 
 pub check-reader-spec : {M : Type 1} → statement M
 check-reader-spec =

@@ -5,6 +5,7 @@ use mathlib.Core.Path.{_≡_, refl, sym, _∙_}
 use native.Mathlib.Omega.{arith}
 use lib.ListN.{length}
 use borrow.Author.Needs.{needs}
+use Rattle.types.specs.Build.{pageSize, chunkHeaderSize}
 use Rattle.reader.specs.Moves.{Whole, moved, restOf, past, skipped}
 use Rattle.reader.specs.declared.moves.Arrived.the-variants.{At}
 use Rattle.reader.proofs.MoveLaws.{rest-within, moved-up, moved-whole}
@@ -16,7 +17,7 @@ abbrev Inv-loop : tie.InvT-loop
 Inv-loop page count r₀ want₀ r want = Whole r × (skipped page want r ≡ skipped page count r₀)
 
 abbrev μ-loop : tie.MeasureT-loop
-μ-loop page count r₀ want₀ r want = 4096 - r .offset
+μ-loop page count r₀ want₀ r want = pageSize - r .offset
 
 loop-holds : tie.Need-loop-holds Inv-loop μ-loop
 loop-holds c = (c .before .pre, refl)
@@ -31,7 +32,7 @@ rest-of-requires : tie.Need-rest-of-requires Inv-loop μ-loop
 rest-of-requires c κs = search needs
 
 -- within the chunk a position does not wrap
-stays : (c : tie.After-rest-of Inv-loop μ-loop) → c .before .before .loop .r .position + length (c .rest-of .result .now) ≤ 4088
+stays : (c : tie.After-rest-of Inv-loop μ-loop) → c .before .before .loop .r .position + length (c .rest-of .result .now) ≤ pageSize - chunkHeaderSize
 stays c =
     let l = c .before .before in
     let a = l .before .before .args in

@@ -1,5 +1,4 @@
 -- `replay_writer::stores::difference`: each index is below both lengths. Assumes nothing.
-use mathlib.Core.Path.{_≡_}
 use Prim.Native.Nat.{_-_, _≤_}
 use native.Mathlib.Omega.{arith}
 use borrow.Author.Needs.{needs}

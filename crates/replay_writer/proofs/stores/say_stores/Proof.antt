@@ -1,6 +1,6 @@
 -- `replay_writer::stores::say_stores`: a turn for each store, and no turn changes the flash's length. Assumes nothing.
 use mathlib.Core.Path.{_≡_}
-use Prim.Native.Nat.{_-_, _≤_}
+use Prim.Native.Nat.{_-_}
 use native.Mathlib.Omega.{arith}
 use borrow.Author.Needs.{needs}
 use lib.ListN.{length}

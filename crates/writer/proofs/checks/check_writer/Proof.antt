@@ -1,6 +1,11 @@
--- The first check that refuses, of three in their order (`writer-first`). Assumes nothing.
-use mathlib.Core.Path.{_∙_}
-use Rattle.writer.proofs.CheckLaws.{writer-first}
+use mathlib.Core.Path.{sym, _∙_}
+use Rattle.types.specs.Checks.{asking}
+use Rattle.types.specs.declared.refusal.Refusal.the-variants.{BadFlash, BadState}
+use Rattle.types.proofs.CheckLaws.{asking-refused, asking-later}
+use Rattle.flash.specs.Geometry.{flashFine}
+use Rattle.page.specs.Checks.{pageCheck}
+use Rattle.writer.specs.States.{inRange}
+use Rattle.writer.specs.Checks.{writerCheck}
 use borrow.Author.Needs.{needs}
 use Rattle.writer.proofs.checks.check_writer.Statement.{statement}
 use Rattle.writer.proofs.checks.check_writer.Tie as tie
@@ -8,31 +13,69 @@ use Rattle.writer.proofs.checks.check_writer.Tie as tie
 check-flash-requires : tie.Need-check-flash-requires
 check-flash-requires c κs = search needs
 
+enum-known-why : tie.Need-enum-known-why
+enum-known-why c = search needs
+
+returns : tie.Need-returns
+unfolding writerCheck
+returns c =
+    let at-check-flash = c .before .before .before in
+    let start = at-check-flash .before in
+    let a = start .args in
+    sym (asking-refused (flashFine (a .bytes)) BadFlash (c .before .why .given .0 .0) (asking (inRange (a .w)) BadState (pageCheck (a .bytes) (a .w .page)))
+    (sym (at-check-flash .check-flash .ensures) ∙ c .before .why .given .1))
+
+enum-told : tie.Need-enum-told
+enum-told c = search needs
+
 check-state-requires : tie.Need-check-state-requires
 check-state-requires c κs = search needs
+
+enum-known-why-2 : tie.Need-enum-known-why-2
+enum-known-why-2 c = search needs
+
+returns-2 : tie.Need-returns-2
+unfolding writerCheck
+returns-2 c =
+    let at-check-state = c .before .before .before in
+    let at-enum-told = at-check-state .before in
+    let at-check-flash = at-enum-told .before .before in
+    let start = at-check-flash .before in
+    let a = start .args in
+    sym (asking-later (flashFine (a .bytes)) BadFlash (asking (inRange (a .w)) BadState (pageCheck (a .bytes) (a .w .page)))
+    (sym (at-check-flash .check-flash .ensures) ∙ at-enum-told .enum-told .given .1)
+    ∙ asking-refused (inRange (a .w)) BadState (c .before .why2 .given .0 .0) (pageCheck (a .bytes) (a .w .page)) (sym (at-check-state .check-state .ensures) ∙ c .before .why2 .given .1))
+
+enum-told-2 : tie.Need-enum-told-2
+enum-told-2 c = search needs
 
 check-page-requires : tie.Need-check-page-requires
 check-page-requires c κs = search needs
 
-first-requires : tie.Need-first-requires
-first-requires c κs = search needs
-
-first-requires-2 : tie.Need-first-requires-2
-first-requires-2 c κs = search needs
-
-returns : tie.Need-returns
-returns c =
-    c .first2 .ensures
-    ∙ rw (c .before .before .before .before .check-flash .ensures, c .before .first .ensures, c .before .before .before .check-state .ensures, c .before .before .check-page .ensures)
-    (writer-first (c .before .before .before .before .before .before .args .bytes) (c .before .before .before .before .before .before .args .w))
+returns-3 : tie.Need-returns-3
+unfolding writerCheck
+returns-3 c =
+    let at-check-state = c .before .before .before .before in
+    let at-enum-told = at-check-state .before in
+    let at-check-flash = at-enum-told .before .before in
+    let start = at-check-flash .before in
+    let a = start .args in
+    c .check-page .ensures
+    ∙ sym (asking-later (flashFine (a .bytes)) BadFlash (asking (inRange (a .w)) BadState (pageCheck (a .bytes) (a .w .page)))
+    (sym (at-check-flash .check-flash .ensures) ∙ at-enum-told .enum-told .given .1)
+    ∙ asking-later (inRange (a .w)) BadState (pageCheck (a .bytes) (a .w .page)) (sym (at-check-state .check-state .ensures) ∙ c .before .before .enum-told2 .given .1))
 
 pub check-writer-spec : {M : Type 1} → statement M
 check-writer-spec =
     tie.close
     (tie.spec
     check-flash-requires
+    enum-known-why
+    returns
+    enum-told
     check-state-requires
+    enum-known-why-2
+    returns-2
+    enum-told-2
     check-page-requires
-    first-requires
-    first-requires-2
-    returns)
+    returns-3)

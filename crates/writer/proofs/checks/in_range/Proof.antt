@@ -1,7 +1,8 @@
 -- A header that is not allowed ends the test, and else each range is tested by itself (`in-range-no`, `in-range-yes`). Assumes nothing.
 use mathlib.Core.Path.{sym, _∙_}
 use native.Mathlib.Omega.{arith}
-use Rattle.writer.proofs.CheckLaws.{header-true, header-false, header-facts, in-range-no, in-range-yes}
+use Rattle.page.proofs.CheckLaws.{header-facts, header-true, header-false}
+use Rattle.writer.proofs.CheckLaws.{in-range-no, in-range-yes}
 use borrow.Author.Needs.{needs}
 use Rattle.writer.proofs.checks.in_range.Statement.{statement}
 use Rattle.writer.proofs.checks.in_range.Tie as tie

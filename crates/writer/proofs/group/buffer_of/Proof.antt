@@ -1,6 +1,6 @@
 -- What is behind the whole groups goes to the start of the group (`take-rest`). Assumes nothing.
 use mathlib.Core.Path.{_∙_}
-use Rattle.slices.specs.Patch.{patch}
+use Rattle.slices.proofs.OverLaws.{patch-start}
 use Rattle.writer.specs.Writes.{bufferOf}
 use Rattle.writer.proofs.GroupLaws.{take-rest}
 use borrow.Author.Needs.{needs}
@@ -32,8 +32,11 @@ filled-requires : tie.Need-filled-requires
 filled-requires c κs = search needs
 
 returns : tie.Need-returns
-unfolding bufferOf patch
-returns c = c .filled .ensures ∙ rw (take-rest, c .before .before .group-of .ensures, c .before .before .before .to-whole .ensures, c .before .before .before .before .to-group .ensures)
+unfolding bufferOf
+returns c =
+    c .filled .ensures
+    ∙ rw (take-rest, c .before .before .group-of .ensures, c .before .before .before .to-whole .ensures, c .before .before .before .before .to-group .ensures)
+    (patch-start _ _)
 
 pub buffer-of-spec : {M : Type 1} → statement M
 buffer-of-spec =

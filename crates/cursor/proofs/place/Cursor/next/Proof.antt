@@ -17,8 +17,8 @@ returns c = next-refused _ _ _ _ _ _ _ _ (c .before .before .before .check-next 
 enum-told : tie.Need-enum-told
 enum-told c = search needs
 
-settle-requires : tie.Need-settle-requires
-settle-requires c κs = next-few _ _ _ (sym (c .before .before .check-next .ensures) ∙ c .enum-told .given .1)
+settled-requires : tie.Need-settled-requires
+settled-requires c κs = next-few _ _ _ (sym (c .before .before .check-next .ensures) ∙ c .enum-told .given .1)
 
 deliver-requires : tie.Need-deliver-requires
 deliver-requires c κs = search needs
@@ -38,7 +38,7 @@ returns-2 c =
     let settled = delivered .before .before .before in
     let fine = settled .before in
     let checked = fine .before .before in
-    next-settled _ _ _ _ _ _ _ _ (checked .check-next .ensures) (fine .enum-told .given .1) _ (settled .settle .ensures)
+    next-settled _ _ _ _ _ _ _ _ (checked .check-next .ensures) (fine .enum-told .given .1) _ (settled .settled .ensures)
     _ (delivered .deliver .ensures .0) _ _ (delivered .deliver .ensures .1) _ (c .places-by .ensures)
 
 pub next-spec : {M : Type 1} → statement M
@@ -49,7 +49,7 @@ next-spec =
     enum-known-check
     returns
     enum-told
-    settle-requires
+    settled-requires
     deliver-requires
     places-by-requires
     same-length

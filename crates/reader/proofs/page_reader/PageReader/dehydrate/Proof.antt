@@ -16,14 +16,14 @@ returns c = rw (← c .before .before .before .check-state .ensures, c .before .
 enum-told : tie.Need-enum-told
 enum-told c = search needs
 
-stored-of-requires : tie.Need-stored-of-requires
-stored-of-requires c κs = search needs
+stored-requires : tie.Need-stored-requires
+stored-requires c κs = search needs
 
 returns-2 : tie.Need-returns-2
 unfolding dehydrate
-returns-2 c = rw (c .stored-of .ensures, ← c .before .before .before .check-state .ensures, c .before .enum-told .given .1)
+returns-2 c = rw (c .stored .ensures, ← c .before .before .before .check-state .ensures, c .before .enum-told .given .1)
 
 pub dehydrate-spec : {M : Type 1} → statement M
 dehydrate-spec =
     tie.close
-    (tie.spec check-state-requires enum-known-why returns enum-told stored-of-requires returns-2)
+    (tie.spec check-state-requires enum-known-why returns enum-told stored-requires returns-2)

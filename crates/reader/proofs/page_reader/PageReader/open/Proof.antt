@@ -31,8 +31,8 @@ returns-2 c =
     open-wrong (a .flash .now) (a .magic) (a .page) (a .header .now) (sym (c .before .before .before .before .before .check-open .ensures) ∙ c .before .before .before .enum-told .given .1)
     (rw (c .before .before .page-of .ensures) at (sym (c .before .page-header-fine .ensures) ∙ not-true _ (c .if1 .taken))) (a .self)
 
-unread-of-requires : tie.Need-unread-of-requires
-unread-of-requires c κs = search needs
+unread-requires : tie.Need-unread-requires
+unread-requires c κs = search needs
 
 add-arriving : tie.Need-add-arriving
 add-arriving c = search needs
@@ -48,8 +48,8 @@ enum-told-2 c = search needs
 
 returns-3 : tie.Need-returns-3
 returns-3 c =
-    let at-unread-of = c .before .before .before in
-    let at-if1 = at-unread-of .before in
+    let at-unread = c .before .before .before in
+    let at-if1 = at-unread .before in
     let at-page-header-fine = at-if1 .before in
     let at-page-of = at-page-header-fine .before in
     let at-enum-told = at-page-of .before in
@@ -58,7 +58,7 @@ returns-3 c =
     let a = start .args in
     open-bad (a .flash .now) (a .magic) (a .page) (a .header .now) (sym (at-check-open .check-open .ensures) ∙ at-enum-told .enum-told .given .1)
     (rw (at-page-of .page-of .ensures) at (sym (at-page-header-fine .page-header-fine .ensures) ∙ not-false _ (at-if1 .if1 .left))) (a .self)
-    (rw (at-unread-of .unread-of .ensures, at-page-of .page-of .ensures) at (sym (c .before .before .arriving .ensures) ∙ c .enum-told2 .given .1))
+    (rw (at-unread .unread .ensures, at-page-of .page-of .ensures) at (sym (c .before .before .arriving .ensures) ∙ c .enum-told2 .given .1))
 
 header-of-requires : tie.Need-header-of-requires
 header-of-requires c κs = search needs
@@ -74,8 +74,8 @@ returns-4 c =
     let at-header-of = c .before .before .before in
     let at-r = at-header-of .before .before .before in
     let at-arriving = at-r .before .before in
-    let at-unread-of = at-arriving .before in
-    let at-if1 = at-unread-of .before in
+    let at-unread = at-arriving .before in
+    let at-if1 = at-unread .before in
     let at-page-header-fine = at-if1 .before in
     let at-page-of = at-page-header-fine .before in
     let at-enum-told = at-page-of .before in
@@ -84,7 +84,7 @@ returns-4 c =
     let a = start .args in
     let k = open-at (a .flash .now) (a .magic) (a .page) (a .header .now) (sym (at-check-open .check-open .ensures) ∙ at-enum-told .enum-told .given .1)
     (rw (at-page-of .page-of .ensures) at (sym (at-page-header-fine .page-header-fine .ensures) ∙ not-false _ (at-if1 .if1 .left))) (a .self) (at-r .r .given .0 .0)
-    (rw (at-unread-of .unread-of .ensures, at-page-of .page-of .ensures) at (sym (at-arriving .arriving .ensures) ∙ at-r .r .given .1)) in
+    (rw (at-unread .unread .ensures, at-page-of .page-of .ensures) at (sym (at-arriving .arriving .ensures) ∙ at-r .r .given .1)) in
     (k .0, c .before .before .put .ensures ∙ rw (at-header-of .header-of .ensures, at-page-of .page-of .ensures) (k .1))
 
 pub open-spec : {M : Type 1} → statement M
@@ -98,7 +98,7 @@ open-spec =
     page-of-requires
     page-header-fine-requires
     returns-2
-    unread-of-requires
+    unread-requires
     add-arriving
     arriving-requires
     enum-known-r

@@ -6,8 +6,8 @@ use borrow.Author.Needs.{needs}
 use Rattle.reader.proofs.page_reader.PageReader.rehydrate_from.Statement.{statement}
 use Rattle.reader.proofs.page_reader.PageReader.rehydrate_from.Tie as tie
 
-restored-of-requires : tie.Need-restored-of-requires
-restored-of-requires c κs = search needs
+restored-requires : tie.Need-restored-requires
+restored-requires c κs = search needs
 
 check-reader-requires : tie.Need-check-reader-requires
 check-reader-requires c κs = search needs
@@ -19,7 +19,7 @@ returns : tie.Need-returns
 returns c =
     let a = c .before .before .before .before .before .before .args in
     rehydrate-refused (a .self) (a .flash .now) (a .dehydrated) (c .before .why .given .0 .0)
-    (rw (c .before .before .before .before .restored-of .ensures) at (sym (c .before .before .before .check-reader .ensures) ∙ c .before .why .given .1))
+    (rw (c .before .before .before .before .restored .ensures) at (sym (c .before .before .before .check-reader .ensures) ∙ c .before .why .given .1))
 
 enum-told : tie.Need-enum-told
 enum-told c = search needs
@@ -27,10 +27,10 @@ enum-told c = search needs
 returns-2 : tie.Need-returns-2
 returns-2 c =
     let at-check-reader = c .before .before .before .before in
-    let at-restored-of = at-check-reader .before in
-    let start = at-restored-of .before .before in
+    let at-restored = at-check-reader .before in
+    let start = at-restored .before .before in
     let a = start .args in
-    let s = at-restored-of .restored-of .ensures in
+    let s = at-restored .restored .ensures in
     rw s (rehydrate-ended (a .self) (a .flash .now) (a .dehydrated) (rw s at (sym (at-check-reader .check-reader .ensures) ∙ c .before .before .enum-told .given .1)) (rw s at (c .if1 .taken)))
 
 page-of-requires : tie.Need-page-of-requires
@@ -49,10 +49,10 @@ returns-3 c =
     let at-if1 = at-page-of .before in
     let at-enum-told = at-if1 .before .before in
     let at-check-reader = at-enum-told .before .before in
-    let at-restored-of = at-check-reader .before in
-    let start = at-restored-of .before .before in
+    let at-restored = at-check-reader .before in
+    let start = at-restored .before .before in
     let a = start .args in
-    let s = at-restored-of .restored-of .ensures in
+    let s = at-restored .restored .ensures in
     let sum = c .before .before .crc32 .ensures ∙ ap published (at-payload-at .payload-at .ensures) in
     rw s (rehydrate-right (a .self) (a .flash .now) (a .dehydrated) (rw s at (sym (at-check-reader .check-reader .ensures) ∙ at-enum-told .enum-told .given .1)) (rw s at (at-if1 .if1 .left))
     (rw (at-page-of .page-of .ensures, s) at (sym sum ∙ c .if2 .taken)))
@@ -64,10 +64,10 @@ returns-4 c =
     let at-if1 = at-page-of .before in
     let at-enum-told = at-if1 .before .before in
     let at-check-reader = at-enum-told .before .before in
-    let at-restored-of = at-check-reader .before in
-    let start = at-restored-of .before .before in
+    let at-restored = at-check-reader .before in
+    let start = at-restored .before .before in
     let a = start .args in
-    let s = at-restored-of .restored-of .ensures in
+    let s = at-restored .restored .ensures in
     let sum = c .before .before .crc32 .ensures ∙ ap published (at-payload-at .payload-at .ensures) in
     rehydrate-wrong (a .self) (a .flash .now) (a .dehydrated) (rw s at (sym (at-check-reader .check-reader .ensures) ∙ at-enum-told .enum-told .given .1)) (rw s at (at-if1 .if1 .left))
     (λ q. c .if2 .left ((rw (at-page-of .page-of .ensures, s) at sum) ∙ q ∙ sym (ap (λ (r : PageReader). r .crc) s)))
@@ -76,7 +76,7 @@ pub rehydrate-from-spec : {M : Type 1} → statement M
 rehydrate-from-spec =
     tie.close
     (tie.spec
-    restored-of-requires
+    restored-requires
     check-reader-requires
     enum-known-why
     returns

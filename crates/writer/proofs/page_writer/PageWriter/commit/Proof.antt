@@ -6,7 +6,7 @@ use Rattle.types.specs.Build.{eraseValue}
 use Rattle.types.specs.declared.refusal.Verdict.the-variants.{Fine}
 use Rattle.writer.specs.Duties.{commitDuty}
 use Rattle.writer.specs.Checks.{writerCheck}
-use Rattle.writer.proofs.CheckLaws.{Passed, writer-passed, Sound, sound, small}
+use Rattle.writer.proofs.CheckLaws.{WriterChecked, writer-checked, InRange, small}
 use Rattle.writer.proofs.CommitLaws.{commit-none, commit-some}
 use Rattle.writer.proofs.LiesOnLaws.{commit-lies}
 use Rattle.writer.proofs.OutcomeLaws.{ends-refused}
@@ -41,11 +41,11 @@ four c = search needs
 fine : (c : tie.After-enum-told) → writerCheck (length (start c .args .flash .now)) (start c .args .self) ≡ Fine
 fine c = sym (c .before .before .check-writer .ensures) ∙ c .enum-told .given .1
 
-passed : (c : tie.After-enum-told) → Passed (length (start c .args .flash .now)) (start c .args .self)
-passed c = writer-passed (length (start c .args .flash .now)) (start c .args .self) (fine c)
+checks : (c : tie.After-enum-told) → WriterChecked (length (start c .args .flash .now)) (start c .args .self)
+checks c = writer-checked (length (start c .args .flash .now)) (start c .args .self) (fine c)
 
-known : (c : tie.After-enum-told) → Sound (start c .args .self)
-known c = sound (start c .args .self) (passed c .state)
+known : (c : tie.After-enum-told) → InRange (start c .args .self)
+known c = checks c .range
 
 returns-2 : tie.Need-returns-2
 returns-2 c =
@@ -59,7 +59,7 @@ finish-chunk-requires c κs =
     let checked = some .before .before in
     let a = start checked .args in
     let k = known checked in
-    let lie = commit-lies eraseValue (length (a .flash .now)) (a .self) (passed checked) (four (start checked)) (some .if1 .left) in
+    let lie = commit-lies eraseValue (length (a .flash .now)) (a .self) (checks checked) (four (start checked)) (some .if1 .left) in
     (k .within, (small _ k, lie))
 
 next-chunk-requires : tie.Need-next-chunk-requires

@@ -3,8 +3,8 @@ use mathlib.Core.Path.{_≡_, sym, _∙_}
 use native.Mathlib.Omega.{arith}
 use lib.ListN.{length}
 use Rattle.types.specs.declared.refusal.Verdict.the-variants.{Fine}
-use Rattle.writer.specs.Checks.{openCheck}
-use Rattle.writer.proofs.CheckLaws.{open-passed, header-facts}
+use Rattle.page.specs.Checks.{openCheck}
+use Rattle.page.proofs.CheckLaws.{open-checked}
 use Rattle.writer.proofs.OpeningLaws.{open-refused, open-fine}
 use borrow.Author.Needs.{needs}
 use Rattle.writer.proofs.page_writer.PageWriter.open.Statement.{statement}
@@ -31,13 +31,13 @@ enum-told c = search needs
 abbrev start : tie.After-enum-told → tie.Start
 start c = c .before .before .before .before
 
-fine : (c : tie.After-enum-told) → openCheck (length (start c .args .flash .now)) (start c .args .page .0) (start c .args .h) ≡ Fine
+fine : (c : tie.After-enum-told) → openCheck (length (start c .args .flash .now)) (start c .args .h) (start c .args .page) ≡ Fine
 fine c = sym (c .before .before .check-open .ensures) ∙ c .enum-told .given .1
 
 add-fresh : tie.Need-add-fresh
 add-fresh c =
     let a = start c .args in
-    omega (arith, header-facts (a .h) (open-passed (length (a .flash .now)) (a .page .0) (a .h) (fine c) .1 .0))
+    omega (arith, open-checked (length (a .flash .now)) (a .h) (a .page) (fine c) .small)
 
 fresh-requires : tie.Need-fresh-requires
 fresh-requires c κs = search needs

@@ -4,8 +4,8 @@ use mathlib.Core.Path.{_≡_, sym, _∙_}
 use native.Mathlib.Omega.{arith}
 use lib.ListN.{length}
 use Rattle.types.specs.declared.refusal.Verdict.the-variants.{Fine}
-use Rattle.writer.specs.Checks.{openCheck}
-use Rattle.writer.proofs.CheckLaws.{open-passed, header-facts}
+use Rattle.page.specs.Checks.{openCheck}
+use Rattle.page.proofs.CheckLaws.{open-checked}
 use Rattle.types.specs.Build.{eraseValue}
 use Rattle.writer.proofs.OpeningLaws.{append-refused, append-corrupted, append-fine}
 use borrow.Author.Needs.{needs}
@@ -36,14 +36,14 @@ page-of-requires c κs = search needs
 abbrev start : tie.After-enum-told → tie.Start
 start c = c .before .before .before .before
 
-fine : (c : tie.After-enum-told) → openCheck (length (start c .args .flash .now)) (start c .args .page .0) (start c .args .h) ≡ Fine
+fine : (c : tie.After-enum-told) → openCheck (length (start c .args .flash .now)) (start c .args .h) (start c .args .page) ≡ Fine
 fine c = sym (c .before .before .check-open .ensures) ∙ c .enum-told .given .1
 
 add-walk-end : tie.Need-add-walk-end
 add-walk-end c =
     let checked = c .before in
     let a = start checked .args in
-    omega (arith, header-facts (a .h) (open-passed (length (a .flash .now)) (a .page .0) (a .h) (fine checked) .1 .0))
+    omega (arith, open-checked (length (a .flash .now)) (a .h) (a .page) (fine checked) .small)
 
 walk-end-requires : tie.Need-walk-end-requires
 walk-end-requires c κs = search needs

@@ -7,7 +7,7 @@ use lib.ListN.{length, take, length-take}
 use Rattle.types.specs.Build.{maxChunkSize, eraseValue}
 use Rattle.types.specs.declared.refusal.Verdict.the-variants.{Fine}
 use Rattle.writer.specs.Checks.{writerCheck}
-use Rattle.writer.proofs.CheckLaws.{Passed, writer-passed, Sound, sound, small, total-small}
+use Rattle.writer.proofs.CheckLaws.{WriterChecked, writer-checked, InRange, small, total-small}
 use Rattle.writer.proofs.LiesOnLaws.{write-lies}
 use Rattle.writer.proofs.WriteLaws.{taken-fits, grown-fits, write-refused, write-none, write-some}
 use borrow.Author.Needs.{needs}
@@ -41,11 +41,11 @@ four c = search needs
 fine : (c : tie.After-enum-told) → writerCheck (length (start c .args .flash .now)) (start c .args .self) ≡ Fine
 fine c = sym (c .before .before .check-writer .ensures) ∙ c .enum-told .given .1
 
-passed : (c : tie.After-enum-told) → Passed (length (start c .args .flash .now)) (start c .args .self)
-passed c = writer-passed (length (start c .args .flash .now)) (start c .args .self) (fine c)
+checks : (c : tie.After-enum-told) → WriterChecked (length (start c .args .flash .now)) (start c .args .self)
+checks c = writer-checked (length (start c .args .flash .now)) (start c .args .self) (fine c)
 
-known : (c : tie.After-enum-told) → Sound (start c .args .self)
-known c = sound (start c .args .self) (passed c .state)
+known : (c : tie.After-enum-told) → InRange (start c .args .self)
+known c = checks c .range
 
 takes-requires : tie.Need-takes-requires
 takes-requires c κs = let k = known c in (k .within, small _ k)
@@ -80,7 +80,7 @@ take-bytes-requires c κs =
     let counted = some .before in
     let checked = counted .before in
     let a = start checked .args in
-    let lie = write-lies eraseValue (length (a .flash .now)) (counted .takes .result) (a .self) (a .bytes .now) (passed checked)
+    let lie = write-lies eraseValue (length (a .flash .now)) (counted .takes .result) (a .self) (a .bytes .now) (checks checked)
     (four (start checked)) (counted .takes .ensures) (some .if1 .left) in
     (known checked .within, (fits counted, (grown .grown .ensures, lie)))
 

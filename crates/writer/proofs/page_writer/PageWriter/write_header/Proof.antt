@@ -6,7 +6,7 @@ use Rattle.types.specs.Build.{eraseValue}
 use Rattle.types.specs.declared.refusal.Verdict.the-variants.{Fine}
 use Rattle.writer.specs.Duties.{headingDuty}
 use Rattle.writer.specs.Checks.{headingCheck}
-use Rattle.writer.proofs.CheckLaws.{heading-passed, header-facts}
+use Rattle.writer.proofs.CheckLaws.{heading-checked}
 use Rattle.writer.proofs.LiesOnLaws.{header-lies}
 use Rattle.writer.proofs.OutcomeLaws.{ends-refused, ends-ran}
 use borrow.Author.Needs.{needs}
@@ -42,9 +42,8 @@ head-page-requires : tie.Need-head-page-requires
 head-page-requires c κs =
     let checked = c .before in
     let a = start checked .args in
-    let passed = heading-passed _ _ _ (fine checked) in
-    let short = header-facts _ (passed .1 .1) .1 in
-    (short, header-lies eraseValue (length (a .flash .now)) (a .self) (a .magic) (a .header .now) (passed .0) short)
+    let k = heading-checked _ _ _ (fine checked) in
+    (k .small, header-lies eraseValue (length (a .flash .now)) (a .self) (a .magic) (a .header .now) (k .writer) (k .small))
 
 ended-by-requires : tie.Need-ended-by-requires
 ended-by-requires c κs = search needs

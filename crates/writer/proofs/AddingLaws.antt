@@ -7,20 +7,21 @@ use Prim.Native.Nat.{ℕ, zero, suc, _+_, _-_, _*_, _/_, _%_, _≤_, _<_}
 use native.Mathlib.Nat.{zero-add}
 use native.Mathlib.Omega.{arith}
 use lib.Dec.{eqb}
-use lib.ListN.{length, take, drop, length-append, length-take, length-drop, take-append-drop, drop-of-length-le}
+use lib.ListN.{length, take, drop, replicate, length-append, length-take, length-drop, take-append-drop, drop-of-length-le}
 use lib.Seq.{take-all, drop-drop}
 use borrow.Author.Tests.{eq-eqb, ne-eqb, le-leb, lt-leb}
-use Rattle.types.specs.Build.{pageSize}
+use Rattle.types.specs.Build.{pageSize, align}
 use Rattle.types.specs.declared.page_id.PageID.{PageID}
 use Rattle.types.proofs.TestLaws.{le-or-lt, eq-or-ne}
 use Rattle.crc.specs.Register.{preset, updated}
-use Rattle.crc.proofs.RegisterLaws.{crc-append}
+use Rattle.crc.proofs.RegisterLaws.{crc-append, updated-none}
 use Rattle.flash.specs.Operations.{store, opIf, made, applied}
 use Rattle.slices.specs.Patch.{over, patch}
-use Rattle.slices.proofs.PatchLaws.{length-over, length-patch, patch-none}
+use Rattle.slices.proofs.PatchLaws.{length-over, length-patch, patch-none, put-start}
+use Rattle.writer.specs.States.{fresh}
 use Rattle.writer.specs.Writes.{lacking, toGroup, completes, toWhole, groupOf, bufferOf, payloadOps, grown}
 use Rattle.writer.specs.declared.page_writer.PageWriter.{PageWriter}
-use Rattle.claims.proofs.GroupLaws.{wholes, rest, length-rest, over-take, patch-take, rest-even, wholes-short, rest-short, wholes-take, group-stored, wholes-stored}
+use Rattle.writer.proofs.WholeLaws.{wholes, rest, length-rest, over-take, patch-take, rest-even, wholes-short, rest-short, wholes-take, group-stored, wholes-stored}
 
 -- a writer at offset o that has taken a payload
 abbrev pub holding : PageID → ℕ → ℕ → List ℕ → List ℕ → ℕ → PageWriter
@@ -38,10 +39,23 @@ pub record Adding (page₀ : List ℕ) (o : ℕ) (w : PageWriter) (payload page 
   pub top : take (length payload % 4) buf ≡ rest payload
   pub stored : page ≡ patch (o + 8) (wholes payload) page₀
 
+-- a fresh writer has taken nothing
+pub adding-none : (page₀ : List ℕ) (o : ℕ) (id : PageID) (h : ℕ) → Adding page₀ o (fresh false id h o) [] page₀
+adding-none page₀ o id h = record {
+  id = id;
+  h = h;
+  total = 0;
+  buf = replicate align 0;
+  held = ap (λ (c : ℕ). record { page = id; h = h; armed = false; crc = c; buf = replicate align 0; total = 0; offset = o; pending = 0 }) (sym (updated-none preset));
+  four = refl;
+  top = refl;
+  stored = sym (patch-none (o + 8) page₀);
+}
+
 -- ---- one store
 
 pub made-fit : (at : ℕ) (bytes page : List ℕ) → at + length bytes ≤ pageSize → made 0 (store at bytes) page ≡ patch at bytes page
-made-fit at bytes page h = ap₂ (λ (a : ℕ) (b : List ℕ). patch a b page) (zero-add at) (take-all (4096 - at) bytes (omega arith))
+made-fit at bytes page h = ap₂ (λ (a : ℕ) (b : List ℕ). patch a b page) (zero-add at) (take-all (pageSize - at) bytes (omega arith))
 
 some-stored : (at m : ℕ) (bytes page : List ℕ) → at + m ≤ pageSize → applied 0 (opIf (not (eqb m 0)) (store at (take m bytes))) page ≡ patch at (take m bytes) page
 some-stored at zero bytes page h = sym (patch-none at page)
@@ -158,7 +172,7 @@ module _ (id : PageID) (h total o : ℕ) (buf payload bytes page₀ : List ℕ) 
       count p g n e h = omega arith
 
   short-top : length payload % 4 + length bytes < 4 → (length payload % 4 ≡ 0 → ⊥) → take (length (payload ++ bytes) % 4) (bufferOf w bytes) ≡ rest (payload ++ bytes)
-  unfolding bufferOf groupOf over
+  unfolding bufferOf groupOf
   short-top few some =
       let n = length bytes in
       let more : n < lacking w = omega arith in
@@ -167,6 +181,7 @@ module _ (id : PageID) (h total o : ℕ) (buf payload bytes page₀ : List ℕ) 
       let d : drop (toGroup w n + toWhole w n) bytes ≡ [] = drop-of-length-le bytes (let p : n ≤ toGroup w n + toWhole w n = omega arith in p) in
       let t : take (toGroup w n) bytes ≡ bytes = take-all (toGroup w n) bytes (let p : n ≤ toGroup w n = omega arith in p) in
       ap₂ (λ (m : ℕ) (l : List ℕ). take m (over l (groupOf w bytes))) k d
+      ∙ ap (take (length payload % 4 + n)) (sym (put-start [] (groupOf w bytes)))
       ∙ ap (λ (l : List ℕ). take (length payload % 4 + n) (patch (length payload % 4) l buf)) t
       ∙ patch-take (length payload % 4) n bytes buf refl (omega arith)
       ∙ ap (λ (l : List ℕ). l ++ bytes) top

@@ -1,6 +1,6 @@
 use borrow.Author.Needs.{needs}
-use Rattle.reader.proofs.checks.check_page.Statement.{statement}
-use Rattle.reader.proofs.checks.check_page.Tie as tie
+use Rattle.page.proofs.checks.check_page.Statement.{statement}
+use Rattle.page.proofs.checks.check_page.Tie as tie
 
 has-page-requires : tie.Need-has-page-requires
 has-page-requires c κs = search needs

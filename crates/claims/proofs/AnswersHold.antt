@@ -1,7 +1,6 @@
 -- The table of answers holds: one claim over it, by computation. Assumes nothing.
 use mathlib.Core.Path.{_≡_, refl}
 use mathlib.Core.List.{map}
-use Rattle.types.specs.Answers.{Told}
 use Rattle.claims.specs.AnswerTable.{AnswerRow, answers}
 
 -- EACH ANSWER AS DOCUMENT 01 TELLS IT

@@ -1,8 +1,8 @@
--- `run::bound::past` compares the key with the bound and answers by how they stand. Assumes nothing.
+-- `run::bound::is_past` compares the key with the bound and answers by how they stand. Assumes nothing.
 use borrow.Author.Needs.{needs}
 use Rattle.run.specs.Bounds.{pastBy}
-use Rattle.run.proofs.bound.past.Statement.{statement}
-use Rattle.run.proofs.bound.past.Tie as tie
+use Rattle.run.proofs.bound.is_past.Statement.{statement}
+use Rattle.run.proofs.bound.is_past.Tie as tie
 
 enum-told : tie.Need-enum-told
 enum-told c = search needs
@@ -65,8 +65,8 @@ returns-7 : tie.Need-returns-7
 unfolding pastBy
 returns-7 c = rw (c .before .before .before .enum-told6 .given .1, ← c .before .before .compare2 .ensures, c .enum-told9 .given .1)
 
-pub past-spec : {M : Type 1} → statement M
-past-spec =
+pub is-past-spec : {M : Type 1} → statement M
+is-past-spec =
     tie.close
     (tie.spec
     enum-told

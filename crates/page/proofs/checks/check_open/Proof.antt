@@ -1,12 +1,13 @@
 use mathlib.Core.Path.{sym, _∙_}
+use Rattle.types.specs.Checks.{asking}
 use Rattle.types.specs.declared.refusal.Refusal.the-variants.{BadFlash, BadHeader}
+use Rattle.types.proofs.CheckLaws.{asking-refused, asking-later}
 use Rattle.flash.specs.Geometry.{flashFine}
+use Rattle.page.specs.Checks.{pageCheck, openCheck}
 use Rattle.page.specs.Headers.{headerFine}
-use Rattle.reader.specs.Checks.{asking, pageCheck, openCheck}
-use Rattle.reader.proofs.CheckLaws.{asked-no, asked-yes}
 use borrow.Author.Needs.{needs}
-use Rattle.reader.proofs.checks.check_open.Statement.{statement}
-use Rattle.reader.proofs.checks.check_open.Tie as tie
+use Rattle.page.proofs.checks.check_open.Statement.{statement}
+use Rattle.page.proofs.checks.check_open.Tie as tie
 
 check-flash-requires : tie.Need-check-flash-requires
 check-flash-requires c κs = search needs
@@ -20,7 +21,7 @@ returns c =
     let at-check-flash = c .before .before .before in
     let start = at-check-flash .before in
     let a = start .args in
-    sym (asked-no (flashFine (a .bytes)) BadFlash (c .before .why .given .0 .0) (asking (headerFine (a .h)) BadHeader (pageCheck (a .bytes) (a .page)))
+    sym (asking-refused (flashFine (a .bytes)) BadFlash (c .before .why .given .0 .0) (asking (headerFine (a .h)) BadHeader (pageCheck (a .bytes) (a .page)))
     (sym (at-check-flash .check-flash .ensures) ∙ c .before .why .given .1))
 
 enum-told : tie.Need-enum-told
@@ -40,9 +41,9 @@ returns-2 c =
     let at-check-flash = at-enum-told .before .before in
     let start = at-check-flash .before in
     let a = start .args in
-    sym (asked-yes (flashFine (a .bytes)) BadFlash (asking (headerFine (a .h)) BadHeader (pageCheck (a .bytes) (a .page)))
+    sym (asking-later (flashFine (a .bytes)) BadFlash (asking (headerFine (a .h)) BadHeader (pageCheck (a .bytes) (a .page)))
     (sym (at-check-flash .check-flash .ensures) ∙ at-enum-told .enum-told .given .1)
-    ∙ asked-no (headerFine (a .h)) BadHeader (c .before .why2 .given .0 .0) (pageCheck (a .bytes) (a .page)) (sym (at-check-header .check-header .ensures) ∙ c .before .why2 .given .1))
+    ∙ asking-refused (headerFine (a .h)) BadHeader (c .before .why2 .given .0 .0) (pageCheck (a .bytes) (a .page)) (sym (at-check-header .check-header .ensures) ∙ c .before .why2 .given .1))
 
 enum-told-2 : tie.Need-enum-told-2
 enum-told-2 c = search needs
@@ -59,9 +60,9 @@ returns-3 c =
     let start = at-check-flash .before in
     let a = start .args in
     c .check-page .ensures
-    ∙ sym (asked-yes (flashFine (a .bytes)) BadFlash (asking (headerFine (a .h)) BadHeader (pageCheck (a .bytes) (a .page)))
+    ∙ sym (asking-later (flashFine (a .bytes)) BadFlash (asking (headerFine (a .h)) BadHeader (pageCheck (a .bytes) (a .page)))
     (sym (at-check-flash .check-flash .ensures) ∙ at-enum-told .enum-told .given .1)
-    ∙ asked-yes (headerFine (a .h)) BadHeader (pageCheck (a .bytes) (a .page)) (sym (at-check-header .check-header .ensures) ∙ c .before .enum-told2 .given .1))
+    ∙ asking-later (headerFine (a .h)) BadHeader (pageCheck (a .bytes) (a .page)) (sym (at-check-header .check-header .ensures) ∙ c .before .enum-told2 .given .1))
 
 pub check-open-spec : {M : Type 1} → statement M
 check-open-spec =

@@ -5,8 +5,8 @@ use borrow.Author.Needs.{needs}
 use Rattle.types.specs.Build.{maxPageCount}
 use Rattle.bench_jobs.specs.Allocations.{allocateFirst}
 use Rattle.bench_jobs.proofs.AllocationLaws.{allocate-again, allocate-end}
-use Rattle.bench_jobs.proofs.allocating.allocate_all.Statement.{statement}
-use Rattle.bench_jobs.proofs.allocating.allocate_all.Tie as tie
+use Rattle.bench_jobs.proofs.allocating.allocate_first.Statement.{statement}
+use Rattle.bench_jobs.proofs.allocating.allocate_first.Tie as tie
 
 abbrev Inv-loop : tie.InvT-loop
 Inv-loop t₀ i₀ t i = (i ≤ maxPageCount) × (t ≡ allocateFirst i t₀)
@@ -33,7 +33,7 @@ loop-again c = (omega arith, allocate-again _ _ _ _ (c .before .before .loop .in
 returns : tie.Need-returns Inv-loop μ-loop
 returns c = allocate-end _ _ _ (omega arith) (omega arith) (c .before .loop .inv .1)
 
-pub allocate-all-spec : {M : Type 1} → statement M
-allocate-all-spec =
+pub allocate-first-spec : {M : Type 1} → statement M
+allocate-first-spec =
     tie.close
     (tie.spec Inv-loop μ-loop loop-holds allocate-one-requires add-i loop-less loop-again returns)

@@ -9,19 +9,19 @@ use Rattle.slices.specs.Patch.{over}
 use Rattle.run.specs.Records.{bodyAt, headBy, headAt}
 use Rattle.run.specs.Search.{soughtBy, soughtHead, soughtFrom, searchIn}
 use Rattle.cursor.specs.Checks.{risingEnds, goodRuns, goodPlace, goodFrom, goodPlaces, newCheck, nextCheck}
-use Rattle.cursor.specs.New.{afterSearch, newFrom, newBy, newOf}
-use Rattle.cursor.specs.Next.{fitted, answerBy, placesBy, putBy, movedBy, nextBy, nextOf, nextKey, nextValue}
+use Rattle.cursor.specs.New.{afterSearch, newFrom, newOf}
+use Rattle.cursor.specs.Next.{fitted, answerBy, placesBy, putBy, movedBy, nextOf, nextKey, nextValue}
 use Rattle.cursor.specs.Pass.{againstLowest, lookBy, lookHead, lookAt, lowestKey, lowestValue, shows, change, passFrom, passOf}
 use Rattle.cursor.specs.Runs.{startOf}
-use Rattle.cursor.specs.Settle.{isHidden, leftAt, sumTo, left, settleFrom, settled}
+use Rattle.cursor.specs.Settle.{isHidden, leftAt, sumTo, bytesAhead, settleFrom, settled}
 use Rattle.cursor.specs.ReferenceCases.{liveB, liveC, endsFrom, shownKey, shownValue, placesIn, outcomeOf, outcomesFrom, outcomes, given, expected, call}
 use Rattle.cursor.specs.BoundTable.{BoundCase, RoomCase, threeKeys, boundCases, keysBy, keysFrom, boundOutcome, roomCases, roomOutcome, damagedRun}
 
 pub bound-table : (map boundOutcome boundCases ≡ map (λ (x : BoundCase). x .keys) boundCases)
     × (map roomOutcome roomCases ≡ map (λ (x : RoomCase). x .number) roomCases) × (outcomes damagedRun ≡ expected damagedRun)
 unfolding word pastBy compareKeys partTo bodyAt headBy headAt soughtBy soughtHead soughtFrom searchIn risingEnds goodRuns goodPlace goodFrom
-    goodPlaces newCheck nextCheck afterSearch newFrom newBy newOf fitted answerBy placesBy over putBy movedBy nextBy nextOf nextKey againstLowest
-    lookBy lookHead lookAt lowestKey shows change passFrom passOf startOf isHidden leftAt sumTo left settleFrom settled liveB liveC
+    goodPlaces newCheck nextCheck afterSearch newFrom newOf fitted answerBy placesBy over putBy movedBy nextOf nextKey againstLowest
+    lookBy lookHead lookAt lowestKey shows change passFrom passOf startOf isHidden leftAt sumTo bytesAhead settleFrom settled liveB liveC
     lowestValue threeKeys boundCases keysBy keysFrom boundOutcome roomCases roomOutcome nextValue flatten endsFrom shownKey shownValue
     placesIn outcomeOf outcomesFrom outcomes given expected call damagedRun
 bound-table = (refl, refl, refl)

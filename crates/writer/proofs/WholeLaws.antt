@@ -1,14 +1,14 @@
 -- Bytes that come in pieces and are stored in groups of 4 are stored in their order. Plain lists: what is stored is the whole
 -- groups of all bytes so far, and the rest stands at the group buffer's start. Assumes nothing.
-use mathlib.Core.Path.{_≡_, refl, sym, ap, ap₂, _∙_}
-use mathlib.Core.List.{List, [], _∷_, _++_, append-assoc}
-use Prim.Native.Nat.{ℕ, zero, suc, _+_, _-_, _*_, _/_, _%_, _≤_, _<_}
-use native.Mathlib.Nat.{zero-add}
+use mathlib.Core.Path.{_≡_, sym, ap, ap₂, _∙_}
+use mathlib.Core.List.{List, _++_, append-assoc}
+use Prim.Native.Nat.{ℕ, _+_, _-_, _*_, _/_, _%_, _≤_, _<_}
+use native.Mathlib.Nat.{le-refl}
 use native.Mathlib.Omega.{arith}
 use lib.ListN.{length, take, drop, length-append, length-take, length-drop, take-append-drop}
-use lib.Seq.{take-all, take-append-le, drop-append-le, take-append-add, drop-append-add}
+use lib.Seq.{take-all, take-append-le, drop-append-le, take-append-add, drop-append-add, take-add}
 use Rattle.slices.specs.Patch.{over, patch}
-use Rattle.slices.proofs.PatchLaws.{length-patch, patch-join}
+use Rattle.slices.proofs.PatchLaws.{length-patch, part-over, part-patch, take-patch-below, patch-join}
 
 -- ---- the whole groups of a list, and the rest
 
@@ -27,20 +27,13 @@ length-wholes bs = simp length-take (omega arith)
 -- ---- a buffer of 4 with bytes put in
 
 pub over-take : (k : ℕ) (bs xs : List ℕ) → length bs ≡ k → k ≤ length xs → take k (over bs xs) ≡ bs
-unfolding over
-over-take zero [] xs e h = refl
-over-take zero (b ∷ bs) xs e h = absurd (omega arith)
-over-take (suc k) [] xs e h = absurd (omega arith)
-over-take (suc k) (b ∷ bs) [] e h = absurd (omega arith)
-over-take (suc k) (b ∷ bs) (x ∷ xs) e h = ap (λ (l : List ℕ). b ∷ l) (over-take k bs xs (omega arith) (omega arith))
+over-take k bs xs e h = ap (λ (n : ℕ). take n (over bs xs)) (sym e) ∙ part-over bs xs (omega arith)
 
 pub patch-take : (r k : ℕ) (bs xs : List ℕ) → length bs ≡ k → r + k ≤ length xs → take (r + k) (patch r bs xs) ≡ take r xs ++ bs
-unfolding patch
-patch-take zero k bs xs e h = rw zero-add (over-take k bs xs e (omega arith))
-patch-take (suc r) k bs [] e h = absurd (omega arith)
-patch-take (suc r) k bs (x ∷ xs) e h =
-    let s : suc r + k ≡ suc (r + k) = omega arith in
-    rw s (ap (λ (l : List ℕ). x ∷ l) (patch-take r k bs xs e (omega arith)))
+patch-take r k bs xs e h =
+    let laid = patch r bs xs in
+    let there : take k (drop r laid) ≡ bs = ap (λ (n : ℕ). take n (drop r laid)) (sym e) ∙ part-patch r bs xs (omega arith) in
+    take-add r k laid ∙ ap₂ (λ (a b : List ℕ). a ++ b) (take-patch-below r r bs xs (le-refl r)) there
 
 -- ---- more bytes behind whole groups, and behind an unfinished one
 

@@ -5,8 +5,8 @@ use borrow.Author.Needs.{needs}
 use Rattle.types.specs.Build.{maxPageCount}
 use Rattle.bench_jobs.specs.Allocations.{freeFirst}
 use Rattle.bench_jobs.proofs.AllocationLaws.{free-again, free-end}
-use Rattle.bench_jobs.proofs.allocating.free_all.Statement.{statement}
-use Rattle.bench_jobs.proofs.allocating.free_all.Tie as tie
+use Rattle.bench_jobs.proofs.allocating.free_first.Statement.{statement}
+use Rattle.bench_jobs.proofs.allocating.free_first.Tie as tie
 
 abbrev Inv-loop : tie.InvT-loop
 Inv-loop t₀ i₀ t i = (i ≤ maxPageCount) × (t ≡ freeFirst i t₀)
@@ -36,8 +36,8 @@ loop-again c = (omega arith, free-again _ _ _ _ (c .before .before .loop .inv .1
 returns : tie.Need-returns Inv-loop μ-loop
 returns c = free-end _ _ _ (omega arith) (omega arith) (c .before .loop .inv .1)
 
-pub free-all-spec : {M : Type 1} → statement M
-free-all-spec =
+pub free-first-spec : {M : Type 1} → statement M
+free-first-spec =
     tie.close
     (tie.spec
     Inv-loop

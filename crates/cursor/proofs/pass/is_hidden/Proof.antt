@@ -1,8 +1,8 @@
--- `cursor::pass::hidden` reads the mark of the record that was found. Assumes nothing.
+-- `cursor::pass::is_hidden` reads the mark of the record that was found. Assumes nothing.
 use borrow.Author.Needs.{needs}
 use Rattle.cursor.specs.Settle.{isHidden}
-use Rattle.cursor.proofs.pass.hidden.Statement.{statement}
-use Rattle.cursor.proofs.pass.hidden.Tie as tie
+use Rattle.cursor.proofs.pass.is_hidden.Statement.{statement}
+use Rattle.cursor.proofs.pass.is_hidden.Tie as tie
 
 enum-told : tie.Need-enum-told
 enum-told c = search needs
@@ -25,6 +25,6 @@ returns-3 : tie.Need-returns-3
 unfolding isHidden
 returns-3 c = rw (c .enum-told2 .given .1)
 
-pub hidden-spec : {M : Type 1} → statement M
-hidden-spec =
+pub is-hidden-spec : {M : Type 1} → statement M
+is-hidden-spec =
     tie.close (tie.spec enum-told enum-known-lowest enum-told-2 returns returns-2 returns-3)

@@ -13,18 +13,18 @@ use Rattle.types.specs.Build.{pageSize, maxChunkSize}
 use Rattle.types.specs.declared.page_id.PageID.{PageID}
 use Rattle.types.proofs.TestLaws.{eq-or-ne}
 use Rattle.crc.specs.Register.{preset, updated, finished}
-use Rattle.flash.specs.Operations.{Op, store, opIf, made, applied}
+use Rattle.flash.specs.Operations.{Op, erase, store, opIf, made, applied}
 use Rattle.slices.specs.Patch.{patch}
 use Rattle.flash.specs.Covers.{opAt, opBytes}
 use Rattle.flash.proofs.PageLaws.{made-patch}
 use Rattle.slices.proofs.PatchLaws.{patch-join, take-patch-below}
 use Rattle.flash.proofs.OperationLaws.{applied-append}
 use Rattle.page.specs.Chunks.{chunkHeader, alignUp}
 use Rattle.writer.specs.Commits.{groupAt, payloadFrom, chunkOps}
-use Rattle.writer.specs.Writes.{toGroup, toWhole, completes, groupOf, wholeOf, payloadOps}
+use Rattle.writer.specs.Writes.{toGroup, toWhole, completes, groupOf, wholeOf, payloadOps, grown, closeOps, takingOps}
 use Rattle.writer.specs.declared.page_writer.PageWriter.{PageWriter}
-use Rattle.claims.proofs.GroupLaws.{wholes, rest, length-wholes}
-use Rattle.claims.proofs.AddingLaws.{holding, Adding, made-fit}
+use Rattle.writer.proofs.WholeLaws.{wholes, rest, length-wholes}
+use Rattle.writer.proofs.AddingLaws.{holding, Adding, made-fit}
 
 -- ---- operations behind an offset
 
@@ -153,3 +153,8 @@ piece-behind o v bytes e =
     (opIf (not (eqb (toWhole v n) 0)) (store (payloadFrom v (v .pending + toGroup v n)) (wholeOf v bytes)))
     (behind-if (o + 8) (completes v n) (store (groupAt v) (groupOf v bytes)) a)
     (behind-if (o + 8) (not (eqb (toWhole v n) 0)) (store (payloadFrom v (v .pending + toGroup v n)) (wholeOf v bytes)) b)
+
+-- a write that takes all these bytes, with no erase armed: its groups, then what a full chunk asks
+pub takingOps-unarmed : (e : ℕ) (w : PageWriter) (bytes : List ℕ) → w .armed ≡ false → takingOps e w bytes ≡ payloadOps w bytes ++ closeOps e (grown w bytes)
+unfolding takingOps
+takingOps-unarmed e w bytes off = ap (λ (b : Bool). opIf b (erase e) ++ payloadOps w bytes ++ closeOps e (grown w bytes)) off
