@@ -23,7 +23,7 @@ pub record Handed : Type 0 where
   pub pages : List ℕ
   pub allocator : Allocator
 
--- none
+-- no page is handed out
 abbrev pub nothingHanded : Allocator → Handed
 nothingHanded a = record { pages = []; allocator = a }
 
@@ -71,6 +71,6 @@ freeOn start [] a = done a
 freeOn start (p ∷ ps) a =
     thenFreeing (free a (record { 0 = p }) .answer) start (freeOn start ps (free a (record { 0 = p }) .allocator))
 
--- all of them, from the start
+-- all pages of the list are freed, or none
 unfoldable pub freeEach : Allocator → List ℕ → Change
 freeEach a pages = refusedOr (stateCheck a) (refusedChange a) (freeOn a pages a)

@@ -21,7 +21,7 @@ pub struct Writing {
     pub why: u8,
 }
 
-// With the page header stored, or refused.
+// The job after write_header, done or refused.
 fn after_header(e: Ended) -> Writing
     ensures answers { λ r. ⌜ r ≡ afterHeader e ⌝ }
 {

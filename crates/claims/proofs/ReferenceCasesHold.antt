@@ -81,7 +81,7 @@ holds (recordBytes c ∷ cs) h =
     both (ap says (same-first (h .h-items)))
     (holds cs (record { h-adds = h .h-adds; h-steps = h .h-steps; h-rows = h .h-rows; h-runs = h .h-runs; h-items = same-rest (h .h-items) }))
 
--- THE STARRED NUMBERS
+-- all reference cases hold
 pub reference-cases-all : map outcomeOf referenceCases ≡ map expected referenceCases
 unfolding referenceCases additions.referenceCases merges.referenceCases
 reference-cases-all =

@@ -22,7 +22,7 @@ use Rattle.writer.specs.Commits.{chunkOps}
 use Rattle.writer.specs.Duties.{commitDuty, makes}
 use Rattle.writer.specs.Headings.{headerOps}
 use Rattle.writer.specs.Openings.{appended}
-use Rattle.writer.specs.ReferenceCases.{Extent, extentOf}
+use Rattle.writer.specs.ReferenceCases.{extent, extentOf}
 use Rattle.writer.specs.States.{fresh, inRange, newWriter}
 use Rattle.writer.specs.Checks.{writerCheck, headingCheck}
 use Rattle.writer.specs.Writes.{groupOf, bufferOf, payloadOps, takingOps, written}
@@ -57,12 +57,9 @@ start = inWorld headedFlash writer 9
 abbrev calls : List Making
 calls = makings eraseValue start twoChunks
 
-abbrev place : ℕ → ℕ → Extent
-place from size = record { from = from; size = size }
-
 -- call by call: the payload and then the header, of the chunk at 12 and of the one at 24, and the page header at 0 between them
 pub worked-stores : map (λ (m : Making). map extentOf (m .ops)) calls
-    ≡ [] ∷ (place 20 4 ∷ place 12 8 ∷ []) ∷ (place 0 12 ∷ []) ∷ [] ∷ (place 32 4 ∷ place 24 8 ∷ []) ∷ []
+    ≡ [] ∷ (extent 20 4 ∷ extent 12 8 ∷ []) ∷ (extent 0 12 ∷ []) ∷ [] ∷ (extent 32 4 ∷ extent 24 8 ∷ []) ∷ []
 unfolding bytesOf over patch blank pageHeader headedFlash inRange writerCheck headingCheck chunkHeader chunkOps headerOps groupOf bufferOf payloadOps takingOps extentOf toldByEach
 worked-stores = refl
 

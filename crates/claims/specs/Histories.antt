@@ -15,7 +15,7 @@ pub record Episode : Type 0 where
   pub pieces : List (List ℕ)
   pub stores : ℕ
 
--- its pieces are bytes, in each
+-- the pieces of each episode are bytes
 abbrev pub AllPieces : List Episode → Type 0
 AllPieces [] = Unit
 AllPieces (t ∷ ts) = AllBytes (t .pieces) × AllPieces ts

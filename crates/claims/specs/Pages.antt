@@ -22,7 +22,7 @@ pub record Right (page : List ℕ) (c : Chunk) : Type 0 where
   pub some : NotEmpty c
   pub sum : sumRight page c ≡ true
 
--- each of these chunks is
+-- each of these chunks is so
 abbrev pub AllRight : List ℕ → List Chunk → Type 0
 AllRight page [] = Unit
 AllRight page (c ∷ cs) = Right page c × AllRight page cs

@@ -111,33 +111,33 @@ pub record Covered (flash : List ℕ) (magic : ℕ) (page : PageID) (h : ℕ) (b
   pub within : position + length bytes ≤ chunk .len
   pub are : bytes ≡ take (length bytes) (drop position (payloadOf (pageOf (page .0) flash) chunk))
 
--- by the opening that their reader comes from; a reader that was never opened has no such bytes
+-- bytes that a sum covers, by the opening that their reader comes from; a reader that was never opened has no such bytes
 abbrev pub CoveredFrom : List ℕ → Origin → List ℕ → Type 0
 CoveredFrom flash never bytes = ⊥
 CoveredFrom flash (openedAt magic page h) bytes = Covered flash magic page h bytes
 
 -- ---- what a call puts into what it is lent
 
--- n covered bytes over the start, and the rest as it was
+-- a call put n covered bytes over the start of what it was lent, and left the rest as it was
 pub record PutCovered (flash : List ℕ) (from : Origin) (lent after : List ℕ) (n : ℕ) : Type 0 where
   pub bytes : List ℕ
   pub many : length bytes ≡ n
   pub covered : CoveredFrom flash from bytes
   pub put : after ≡ bytes ++ drop n lent
 
--- by a read's answer
+-- what a read puts, by its answer
 abbrev pub ReadPuts : List ℕ → Origin → List ℕ → List ℕ → Count → Type 0
 ReadPuts flash from lent after (count.Bytes zero) = after ≡ lent
 ReadPuts flash from lent after (count.Bytes (suc n)) = PutCovered flash from lent after (suc n)
 ReadPuts flash from lent after (count.Refused why) = after ≡ lent
 
--- by the answer of open and of read_header: the bytes of a good header
+-- what open and read_header put, by their answer: the bytes of a good header
 abbrev pub HeaderPuts : List ℕ → ℕ → PageID → List ℕ → List ℕ → Outcome → Type 0
 HeaderPuts flash magic page lent after outcome.Done =
     (after ≡ headerOf (pageOf (page .0) flash) (length lent)) × (pageHeaderFine (pageOf (page .0) flash) magic (page .0) (length lent) ≡ true)
 HeaderPuts flash magic page lent after (outcome.Refused why) = after ≡ lent
 
--- by each call; the others are lent nothing
+-- what each call puts; only read_header, open and read are lent bytes
 abbrev pub Puts : List ℕ → Held → ReaderCall → List ℕ → Type 0
 Puts flash k (readsHeader magic page) lent =
     HeaderPuts flash magic page lent (readHeaderBytes flash magic page lent) (readHeader flash magic page (length lent))

@@ -60,7 +60,7 @@ referenceCases =
     ∷ walk walks.endAt4092
     ∷ addition additions.at4088
     ∷ addition additions.at4084
-    -- the longest chunks, and two that are too long
+    -- a chunk that just fits, and two that are too long
     ∷ walk walks.longestAt12
     ∷ walk walks.longestAt16
     ∷ walk walks.tooLong

@@ -35,7 +35,7 @@ unfoldable pub kept : (List ℕ → Bool) → List Item → List Item
 kept taken [] = []
 kept taken (x ∷ items) = cond (taken (x .key)) (x ∷ kept taken items) (kept taken items)
 
--- without the deletions
+-- the pairs of these items, without the deletions
 unfoldable pub lives : List Item → List Pair
 lives [] = []
 lives (x ∷ items) = cond (x .deleted) (lives items) (record { key = x .key; value = x .value } ∷ lives items)

@@ -1,3 +1,3 @@
-// What the programs for people share: words on standard error, and files read into room.
+// What the programs for people share: words on standard output and standard error, and files read into room.
 pub mod files;
 pub mod say;

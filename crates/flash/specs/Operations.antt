@@ -45,7 +45,7 @@ abbrev pub liesOn : ℕ → ℕ → Op → Bool
 liesOn n p (erase e) = hasPage n p
 liesOn n p (store at bytes) = hasPage n p && leb (at + length bytes) pageSize
 
--- whether all of these operations do
+-- whether all of these operations lie on it
 abbrev pub allLieOn : ℕ → ℕ → List Op → Bool
 allLieOn n p [] = true
 allLieOn n p (op ∷ ops) = liesOn n p op && allLieOn n p ops

@@ -62,7 +62,7 @@ impl Choice {
         bound_of(self.upper_at, self.to)
     }
 
-    // After an argument that cannot be taken; only the first such one is said.
+    // The choice after an argument that cannot be taken; only the first one is named.
     fn stopped(mut self, what: &[u8], argument: &[u8]) -> Choice {
         if self.fine {
             wrong(b"offers", what, argument);
@@ -166,7 +166,7 @@ impl Choice {
         self.with_word(i, part_of(&space, 0, n))
     }
 
-    // Once there are no more.
+    // The choice once all arguments were looked at.
     fn ended(self) -> Choice {
         if self.takes {
             return self.stopped(

@@ -40,7 +40,7 @@ fn put_escaped(out: &mut [u8], at: usize, byte: u8) -> usize {
     put_spelled(out, at, byte)
 }
 
-// How many bytes from here on are printed as they are, where so many were left.
+// How many bytes from here on are printed as they are: what is left of a character, or the one that starts here.
 fn plain_at(rest: &[u8], left: usize, utf8: bool) -> usize {
     if 0 < left {
         return left;

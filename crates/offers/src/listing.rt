@@ -117,7 +117,7 @@ fn decided_by(c: Choice, runs: &[u8], ends: &[usize], cursor: Cursor, key: &[u8]
     FILE_COUNT
 }
 
-// One entry.
+// Asks for the next entry and shows it.
 fn turned(c: Choice, runs: &[u8], ends: &[usize], upper: &[u8], cursor: Cursor) -> Turn {
     let mut key = [0; MAX_KEY_SIZE];
     let mut value = [0; MAX_VALUE_SIZE];

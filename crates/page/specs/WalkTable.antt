@@ -14,23 +14,23 @@ pub record WalkCase : Type 0 where
   pub len : ℕ
   pub finds : Step
 
--- walk at 4088 reads a header
+-- a walk at 4088 reads a header
 abbrev pub headerAt4088 : WalkCase
 headerAt4088 = record { offset = 4088; len = 0; finds = Chunk 0 0 4096 }
 
--- at 4092 it is the end
+-- a walk at 4092 is at the end
 abbrev pub endAt4092 : WalkCase
 endAt4092 = record { offset = 4092; len = 0; finds = End }
 
--- len 4076 at offset 12 fits
+-- a chunk of 4076 bytes at 12 fits
 abbrev pub longestAt12 : WalkCase
 longestAt12 = record { offset = 12; len = 4076; finds = Chunk 4076 0 4096 }
 
--- at 16 Corrupted
+-- a chunk of 4076 bytes at 16 is corrupted
 abbrev pub longestAt16 : WalkCase
 longestAt16 = record { offset = 16; len = 4076; finds = Corrupted }
 
--- 4077 Corrupted
+-- a chunk of 4077 bytes at 12 is corrupted
 abbrev pub tooLong : WalkCase
 tooLong = record { offset = 12; len = 4077; finds = Corrupted }
 

@@ -33,7 +33,7 @@ impl Choice {
         self.count != MOST_WORDS
     }
 
-    // After an argument that cannot be taken; only the first such one is said.
+    // The choice after an argument that cannot be taken; only the first one is named.
     fn stopped(mut self, what: &[u8], argument: &[u8]) -> Choice {
         if self.fine {
             wrong(b"pages", what, argument);
@@ -90,7 +90,7 @@ impl Choice {
         self.with(i, part_of(&space, 0, n))
     }
 
-    // Once there are no more.
+    // The choice once all arguments were looked at.
     fn ended(mut self) -> Choice {
         if (self.count < 3) & self.fine {
             self.helps = true;

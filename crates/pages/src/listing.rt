@@ -62,7 +62,7 @@ fn say_page_at(flash: &[u8], magic: u32, i: usize, h: usize, chunks: bool) -> bo
 
 // The magics on the pages so far.
 struct Magics {
-    // Whether a page is not erased, and the magic of the first such one.
+    // Whether any page so far is not erased, and the magic of the first that is not.
     any: bool,
     first: u32,
     // Whether one has another magic than the first, or the magic that is asked for.
@@ -134,7 +134,7 @@ fn say_pages(flash: &[u8], magic: u32, h: usize, chunks: bool) -> bool {
     say_each(flash, magic, h, chunks, count)
 }
 
-// What is wrong with such a length of the higher header.
+// Says why this H is not allowed.
 fn length_on(fd: i32, h: usize) {
     text_on(fd, b": H is ");
     number_on(fd, h);

@@ -43,7 +43,7 @@ fn magic_at(i: usize) -> Word32 {
     magic_in(part_of(&word, 0, n))
 }
 
-// An argument that is not what it should be.
+// Says that argument i is not what it should be, and answers false.
 fn not_so(what: &[u8], i: usize) -> bool {
     say::text(b"pages: ");
     say::text(what);
@@ -53,7 +53,7 @@ fn not_so(what: &[u8], i: usize) -> bool {
     false
 }
 
-// A page that can be asked for by its number.
+// Prints the bytes of the page that argument i names.
 fn one_page(flash: &[u8], magic: u32, h: usize, i: usize) -> bool {
     let Number::Value(n) = number_at(i) else {
         return not_so(b"PAGE is not a page number", i);
@@ -65,7 +65,7 @@ fn one_page(flash: &[u8], magic: u32, h: usize, i: usize) -> bool {
     not_so(b"PAGE is not a page number", i)
 }
 
-// What is wrong with so many bytes.
+// Says why an image of this size is no flash.
 fn size_on(fd: i32, bytes: usize) {
     if MAX_PAGE_COUNT * PAGE_SIZE < bytes {
         text_on(fd, b": more than ");

@@ -16,7 +16,7 @@ pub(crate) const STEPS: usize = 512;
 pub(crate) struct Walk {
     chunks: usize,
     bytes: usize,
-    // Where it ends, or is refused.
+    // Where the walk ends, or is refused.
     at: usize,
     refused: bool,
 }

@@ -25,19 +25,19 @@ arriving r o step.End = At (record { page = r .page; ended = true; offset = o; l
 arriving r o step.Corrupted = Corrupted
 arriving r o (step.Chunk len crc next) = At (record { page = r .page; ended = false; offset = o; len = len; crc = crc; position = 0 })
 
--- moved to the chunk after its own, whose header and sum are checked
+-- the reader moved to the chunk after its own, whose header and sum are checked
 unfoldable pub moved : List ℕ → PageReader → Arrived
 moved page r = arriving r (nextOffset (r .offset) (r .len)) (checkedAt page (nextOffset (r .offset) (r .len)))
 
--- before it reads: moved once where its chunk is used up
+-- the reader before it reads: moved once where its chunk is used up
 unfoldable pub ready : List ℕ → PageReader → Arrived
 ready page r = cond (r .ended) (At r) (cond (eqb (r .position) (r .len)) (moved page r) (At r))
 
--- what is left of its chunk's payload
+-- what is left of the payload of the reader's chunk
 unfoldable pub restOf : List ℕ → PageReader → List ℕ
 restOf page r = cond (r .ended) [] (drop (r .position) (payloadAt page (r .offset) (r .len)))
 
--- n bytes further in its chunk
+-- the reader n bytes further in its chunk
 abbrev pub past : PageReader → ℕ → PageReader
 past r n =
     record { page = r .page; ended = r .ended; offset = r .offset; len = r .len; crc = r .crc; position = r .position + n }
@@ -47,7 +47,7 @@ abbrev pub onward : (PageReader → Passed) → Arrived → Passed
 onward further (At s) = further s
 onward further Corrupted = passed.Corrupted
 
--- past `count` bytes, over at most n chunks: if the present chunk has too few, the others come from the chunks after it
+-- the reader past `count` bytes, over at most n chunks: if the present chunk has too few, the others come from the chunks after it
 unfoldable pub skipBy : ℕ → List ℕ → ℕ → PageReader → Passed
 skipBy zero page count r = passed.To r count
 skipBy (suc n) page count r =
@@ -55,6 +55,6 @@ skipBy (suc n) page count r =
     (cond (leb count (length (restOf page r))) (passed.To (past r count) 0)
     (onward (skipBy n page (count - length (restOf page r))) (moved page (past r (length (restOf page r))))))
 
--- past `count` bytes, or to the end: every chunk takes at least its header, so no page has more chunks
+-- the reader past `count` bytes, or at the end: every chunk takes at least its header, so no page has more chunks
 unfoldable pub skipped : List ℕ → ℕ → PageReader → Passed
 skipped page count r = skipBy (suc (pageSize / chunkHeaderSize)) page count r

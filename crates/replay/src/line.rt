@@ -6,7 +6,7 @@ use slices::part::part_of;
 
 const LONGEST: usize = 20_000;
 
-// After a line that is no call, or that passes a limit.
+// The world after a line that is no call, or that passes a limit: no more lines are answered.
 fn stopped(w: World) -> World {
     let mut left = w;
     left.fine = false;

@@ -30,7 +30,7 @@ pub(crate) fn with_cursor(w: State, cursor: Cursor) -> Reply {
     called(left)
 }
 
-// With `runs_len` bytes of runs and `ends_len` ends.
+// The state with `runs_len` bytes of runs and `ends_len` ends.
 pub(crate) fn with_runs(w: State, runs_len: usize, ends_len: usize) -> State {
     let mut left = w;
     left.runs_len = runs_len;

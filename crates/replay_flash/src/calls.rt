@@ -1,4 +1,4 @@
-// Calls on the flash itself, which is a buffer's first bytes. A call that passes its end is none.
+// Calls on the flash itself, which is a buffer's first bytes. A line that goes past its end is no call.
 use crate::sums;
 use check::same;
 use crc::crc32;
@@ -28,7 +28,7 @@ pub struct Reply {
     pub len: usize,
 }
 
-// Above any page and any offset of a flash that fits its buffer, so that a place is no large number.
+// No page number or offset may be larger, so that `place` cannot overflow.
 const MOST: usize = 65_536;
 
 pub(crate) fn no_call(len: usize) -> Reply {

@@ -19,7 +19,7 @@ use writer::page_writer::PageWriter;
 pub(crate) enum Call {
     Write,
     Commit,
-    // With its magic.
+    // write_header, with its magic.
     WriteHeader(u32),
 }
 

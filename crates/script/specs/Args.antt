@@ -1,4 +1,4 @@
--- The arguments of a call: what a word of its line stands for (docs/ORACLE.md, "Scripts"). Assumes nothing.
+-- The arguments of a call: what a word of its line stands for (docs/ORACLE.md, Scripts). Assumes nothing.
 use mathlib.Core.Bool.{Bool, true, false, cond, _||_}
 use mathlib.Core.List.{List}
 use Prim.Native.Nat.{ℕ}

@@ -44,7 +44,7 @@ pub fn page_space() -> [u8; PAGE_SIZE]
     [0; PAGE_SIZE]
 }
 
-// Room for such a flash, erased.
+// Room for a flash, FLASH_ROOM bytes, erased.
 pub fn flash_space() -> [u8; FLASH_ROOM]
     ensures answers { λ r. ⌜ r ≡ blank eraseValue flashRoom ⌝ }
     ensures { λ r. ⌜ flashRoom ≡ length r ⌝ }
@@ -60,7 +60,7 @@ pub fn runs_space() -> [u8; 131072]
     [0; 131072]
 }
 
-// Room for those runs.
+// Room for the runs of a merge, ALL_RUNS_ROOM bytes.
 pub fn all_runs_space() -> [u8; ALL_RUNS_ROOM]
     ensures answers { λ r. ⌜ r ≡ blank 0 allRunsRoom ⌝ }
     ensures { λ r. ⌜ allRunsRoom ≡ length r ⌝ }
@@ -68,7 +68,7 @@ pub fn all_runs_space() -> [u8; ALL_RUNS_ROOM]
     [0; ALL_RUNS_ROOM]
 }
 
-// Room for that line.
+// Room for the line of an entry, ENTRY_ROOM bytes.
 pub fn entry_space() -> [u8; ENTRY_ROOM]
     ensures answers { λ r. ⌜ r ≡ blank 0 entryRoom ⌝ }
     ensures { λ r. ⌜ entryRoom ≡ length r ⌝ }

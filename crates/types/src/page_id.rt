@@ -12,14 +12,14 @@ pub struct PageID(pub u16);
 // A page number or none, in 16 bits, as it is written to flash.
 pub struct OptionPageID(pub u16);
 
-// The same with its two cases apart: the Rust's Option<PageID>.
+// The same with its two cases apart: the original's Option<PageID>.
 pub enum MaybePageID {
     None,
     Some(PageID),
 }
 
 impl MaybePageID {
-    // It is no refusal in either case.
+    // 0: neither case is a refusal.
     pub fn number(self) -> u8
         ensures answers { λ r. ⌜ r ≡ maybeTold self .number ⌝ }
     {

@@ -22,15 +22,15 @@ part-back at n bytes xs ys h y =
     let l : length (drop at xs) ≤ n = rw length-drop (omega arith) in
     rw (y, take-all n (drop at xs) l, drop-of-length-le (drop at xs) l, append-nil) (patch-split at bytes xs)
 
--- ---- bytes laid into a buffer
+-- ---- bytes put into a buffer
 
-lay-least : (at from : ℕ) (bytes xs : List ℕ) → from ≡ min at (length xs) → patch from bytes xs ≡ patch at bytes xs
-lay-least at from bytes xs e =
+put-at-min : (at from : ℕ) (bytes xs : List ℕ) → from ≡ min at (length xs) → patch from bytes xs ≡ patch at bytes xs
+put-at-min at from bytes xs e =
     ⊎-elim
     (λ h. let f : from ≡ at = omega arith in ap (λ (m : ℕ). patch m bytes xs) f)
     (λ h. patch-past from bytes xs (omega arith) ∙ sym (patch-past at bytes xs (omega arith)))
     (le-or-lt at (length xs))
 
-pub lay-back : (at from : ℕ) (bytes xs ys : List ℕ) → from ≡ min at (length xs) → ys ≡ over bytes (take (length xs - from) (drop from xs))
+pub put-at-back : (at from : ℕ) (bytes xs ys : List ℕ) → from ≡ min at (length xs) → ys ≡ over bytes (take (length xs - from) (drop from xs))
     → take from xs ++ (ys ++ drop (length xs - from) (drop from xs)) ≡ patch at bytes xs
-lay-back at from bytes xs ys e y = part-back from (length xs - from) bytes xs ys (omega arith) y ∙ lay-least at from bytes xs e
+put-at-back at from bytes xs ys e y = part-back from (length xs - from) bytes xs ys (omega arith) y ∙ put-at-min at from bytes xs e

@@ -1,4 +1,4 @@
--- A call's end, by the way that it came. Assumes nothing.
+-- A call's end, by whether all its operations were made. Assumes nothing.
 use mathlib.Core.Path.{_≡_, ap, _∙_}
 use mathlib.Core.Bool.{true}
 use mathlib.Core.List.{List, []}

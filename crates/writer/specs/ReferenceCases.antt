@@ -71,8 +71,8 @@ expected c = record { outcomes = map (λ (s : Step). s .gives) (c .steps); bytes
 
 -- ---- the table
 
-abbrev pub place : ℕ → ℕ → Extent
-place from size = record { from = from; size = size }
+abbrev pub extent : ℕ → ℕ → Extent
+extent from size = record { from = from; size = size }
 
 -- an opening is done: it stores nothing, and the writer is at this offset
 abbrev pub opens : Call → ℕ → Step
@@ -94,7 +94,7 @@ cut call stores offset pending =
 -- a page with its header, and further calls
 abbrev pub withHeader : List Step → List Step
 withHeader steps =
-    opens (openPage 0 2) 12 ∷ gives (heads 0xA1 []) [] (place 0 4096 ∷ place 0 12 ∷ []) 12 0 ∷ steps
+    opens (openPage 0 2) 12 ∷ gives (heads 0xA1 []) [] (extent 0 4096 ∷ extent 0 12 ∷ []) 12 0 ∷ steps
 
 -- magic 0xA1, page 0, h 0: A1 00 00 00, then eight 00
 abbrev pub header : Case
@@ -103,27 +103,27 @@ header = record { steps = withHeader []; from = 0; bytes = 0xA1 ∷ 0x00 ∷ 0x0
 abbrev pub four : List ℕ
 four = replicate 4 0xFF
 
--- add FF FF FF FF there: stores at 20 (4 bytes), 12 (8); from 12: C5 59 04 00 and eight FF; next offset 24
+-- FF FF FF FF added there: a store of 4 bytes at 20, then one of 8 at 12; from 12 on C5 59 04 00 and eight FF; the next offset is 24
 abbrev pub oneAdded : Case
 oneAdded =
     record {
       steps = withHeader
           (opens (openAppend 0 2) 12
-          ∷ gives (writes four) (4 ∷ []) (place 20 4 ∷ []) 12 4
-          ∷ gives commits [] (place 12 8 ∷ []) 24 0
+          ∷ gives (writes four) (4 ∷ []) (extent 20 4 ∷ []) 12 4
+          ∷ gives commits [] (extent 12 8 ∷ []) 24 0
           ∷ opens (openAppend 0 0) 24
           ∷ []);
       from = 12;
       bytes = 0xC5 ∷ 0x59 ∷ 0x04 ∷ 0x00 ∷ replicate 8 0xFF;
     }
 
--- cut after one: offset is 12 again
+-- the same with one store left: the commit is cut, and the page goes on at 12
 abbrev pub oneCut : Case
 oneCut =
     record {
       steps = withHeader
           (opens (openAppend 0 1) 12
-          ∷ gives (writes four) (4 ∷ []) (place 20 4 ∷ []) 12 4
+          ∷ gives (writes four) (4 ∷ []) (extent 20 4 ∷ []) 12 4
           ∷ cut commits [] 12 4
           ∷ opens (openAppend 0 0) 12
           ∷ []);
@@ -131,14 +131,14 @@ oneCut =
       bytes = replicate 12 0xFF;
     }
 
--- add 00 instead, cut after one store: reopened, the offset is 4096 and write takes 0
+-- a byte 00 added instead, with one store left: a writer that reopens the page is at 4096, and a write takes 0
 abbrev pub zeroCut : Case
 zeroCut =
     record {
       steps = withHeader
           (opens (openAppend 0 1) 12
           ∷ gives (writes (0x00 ∷ [])) (1 ∷ []) [] 12 1
-          ∷ cut commits (place 20 4 ∷ []) 12 1
+          ∷ cut commits (extent 20 4 ∷ []) 12 1
           ∷ opens (openAppend 0 1) 4096
           ∷ gives (writes (0x00 ∷ [])) (0 ∷ []) [] 4096 0
           ∷ []);
@@ -150,34 +150,34 @@ zeroCut =
 abbrev pub onEmpty : ℕ → List Step → Case
 onEmpty h steps = record { steps = opens (openPage h 9) (12 + h) ∷ steps; from = 0; bytes = [] }
 
--- h 0: write of 4077 takes 4076 and commits
+-- with h 0 a write of 4077 takes 4076 and commits
 abbrev pub full : Case
-full = onEmpty 0 (gives (writes (replicate 4077 0x00)) (4076 ∷ []) (place 0 4096 ∷ place 20 4076 ∷ place 12 8 ∷ []) 4096 0 ∷ [])
+full = onEmpty 0 (gives (writes (replicate 4077 0x00)) (4076 ∷ []) (extent 0 4096 ∷ extent 20 4076 ∷ extent 12 8 ∷ []) 4096 0 ∷ [])
 
--- of 4075 stays pending
+-- with h 0 a write of 4075 stays pending
 abbrev pub notFull : Case
-notFull = onEmpty 0 (gives (writes (replicate 4075 0x00)) (4075 ∷ []) (place 0 4096 ∷ place 20 4072 ∷ []) 12 4075 ∷ [])
+notFull = onEmpty 0 (gives (writes (replicate 4075 0x00)) (4075 ∷ []) (extent 0 4096 ∷ extent 20 4072 ∷ []) 12 4075 ∷ [])
 
--- h 4: write of 4073 takes 4072 and doesn't commit
+-- with h 4 a write of 4073 takes 4072 and does not commit
 abbrev pub higherHeader : Case
-higherHeader = onEmpty 4 (gives (writes (replicate 4073 0x00)) (4072 ∷ []) (place 0 4096 ∷ place 24 4072 ∷ []) 16 4072 ∷ [])
+higherHeader = onEmpty 4 (gives (writes (replicate 4073 0x00)) (4072 ∷ []) (extent 0 4096 ∷ extent 24 4072 ∷ []) 16 4072 ∷ [])
 
--- write at offset 4088 takes 0
+-- a write at offset 4088 takes 0
 abbrev pub at4088 : Case
 at4088 =
     onEmpty 0
-    (gives (writes (replicate 4068 0x00)) (4068 ∷ []) (place 0 4096 ∷ place 20 4068 ∷ []) 12 4068
-    ∷ gives commits [] (place 12 8 ∷ []) 4088 0
+    (gives (writes (replicate 4068 0x00)) (4068 ∷ []) (extent 0 4096 ∷ extent 20 4068 ∷ []) 12 4068
+    ∷ gives commits [] (extent 12 8 ∷ []) 4088 0
     ∷ gives (writes (0x00 ∷ [])) (0 ∷ []) [] 4088 0
     ∷ [])
 
--- at 4084 up to 4
+-- a write at offset 4084 takes up to 4
 abbrev pub at4084 : Case
 at4084 =
     onEmpty 0
-    (gives (writes (replicate 4064 0x00)) (4064 ∷ []) (place 0 4096 ∷ place 20 4064 ∷ []) 12 4064
-    ∷ gives commits [] (place 12 8 ∷ []) 4084 0
-    ∷ gives (writes (replicate 5 0x00)) (4 ∷ []) (place 4092 4 ∷ []) 4084 4
+    (gives (writes (replicate 4064 0x00)) (4064 ∷ []) (extent 0 4096 ∷ extent 20 4064 ∷ []) 12 4064
+    ∷ gives commits [] (extent 12 8 ∷ []) 4084 0
+    ∷ gives (writes (replicate 5 0x00)) (4 ∷ []) (extent 4092 4 ∷ []) 4084 4
     ∷ gives (writes (0x00 ∷ [])) (0 ∷ []) [] 4084 4
     ∷ [])
 

@@ -1,5 +1,5 @@
--- The part of the buffer from the index on is lent, takes the bytes at its start, and is put back (`lay-back`). Assumes nothing.
-use Rattle.writer.proofs.GroupLaws.{lay-back}
+-- The part of the buffer from the index on is lent, takes the bytes at its start, and is put back (`put-at-back`). Assumes nothing.
+use Rattle.writer.proofs.GroupLaws.{put-at-back}
 use borrow.Author.Needs.{needs}
 use Rattle.writer.proofs.buffer.put_at.Statement.{statement}
 use Rattle.writer.proofs.buffer.put_at.Tie as tie
@@ -27,7 +27,7 @@ returns c =
     let put = c .before .before in
     let from = put .before .before in
     let a = from .before .before .before .args in
-    lay-back (a .at) (from .min .result) (a .bytes .now) (a .buffer .now) (put .put .last .0) (from .min .ensures) (put .put .ensures)
+    put-at-back (a .at) (from .min .result) (a .bytes .now) (a .buffer .now) (put .put .last .0) (from .min .ensures) (put .put .ensures)
 
 pub put-at-spec : {M : Type 1} → statement M
 put-at-spec =
