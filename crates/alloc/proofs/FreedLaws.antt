@@ -15,7 +15,7 @@ use Rattle.types.proofs.HistoryLaws.{leftAfter-none, leftAfter-more}
 use Rattle.types.proofs.TestLaws.{eq-or-ne}
 use Rattle.alloc.specs.Calls as calls
 use Rattle.alloc.specs.Calls.{nextFree, handingOut}
-use Rattle.alloc.specs.Checks.{pageCheck}
+use Rattle.alloc.specs.Checks.{ownPageCheck}
 use Rattle.alloc.specs.History.{tryAllocate, leftBy, leftAfter}
 use Rattle.alloc.specs.Marks.{marksOf, isMarked, freeing}
 use Rattle.alloc.specs.State.{freed}
@@ -32,7 +32,7 @@ use Rattle.alloc.proofs.StateLaws.{Sound, is-in-range, state-fine, used
 
 module _ (a : Allocator) (p : ℕ) (sound : Sound a) (below : p < a .«page_count») (used : isMarked (a .pages) p ≡ true) where
   pub free-done : calls.free a (record { 0 = p }) ≡ calls.done (freed a p)
-  unfolding calls.free pageCheck
+  unfolding calls.free ownPageCheck
   free-done = rw (is-in-range a (sound .1), lt-ltb p (a .«page_count») below, used)
 
   marks : marksOf (freeing (a .pages) p) ≡ set (marksOf (a .pages)) p false

@@ -14,7 +14,7 @@ use Rattle.types.specs.declared.page_id.MaybePageID.{MaybePageID}
 use Rattle.types.specs.declared.page_id.MaybePageID.the-variants.{None, Some}
 use Rattle.alloc.specs.Calls as calls
 use Rattle.alloc.specs.Calls.{nextFree, handingOut}
-use Rattle.alloc.specs.Checks.{stateCheck, pageCheck, countCheck}
+use Rattle.alloc.specs.Checks.{stateCheck, ownPageCheck, countCheck}
 use Rattle.alloc.specs.History.{Call, reset, tryAllocate, markUsed, free, isUsed, usedPages, freePages, pageCount, margin, tryAllocateEach, freeEach, leftBy, leftAfter}
 use Rattle.alloc.specs.Marks.{bitsOf, marksOf, isMarked, countOf, marking, freeing}
 use Rattle.alloc.specs.Several as several
@@ -107,7 +107,7 @@ allocated-kept a s = refusedOr-either (λ (x : Allocation). Sound (x .allocator)
 
 freed-kept : (a : Allocator) (p : ℕ) → Sound a → Sound (calls.free a (record { 0 = p }) .allocator)
 unfolding calls.free
-freed-kept a p s = refusedOr-either (λ (x : Change). Sound (x .allocator)) (pageCheck a (record { 0 = p })) _ _ (λ why. s) (λ e.
+freed-kept a p s = refusedOr-either (λ (x : Change). Sound (x .allocator)) (ownPageCheck a (record { 0 = p })) _ _ (λ why. s) (λ e.
     let below = fine-page a (record { 0 = p }) e .1 in
     either Sound (isMarked (a .pages) p) _ _ (λ m. (freed-sized a p (s .0), freed-in a p (s .0) (s .1) below m)) (λ m. s))
 
@@ -143,7 +143,7 @@ kept a (reset count seed) s =
     refusedOr-either (λ (x : Change). Sound (x .allocator)) (countCheck count) _ _ (λ why. s)
     (λ e. let f = fine-count count e in (refl, allFree-in count (seed % count) (f .1) (inl (mod-lt seed (f .0)))))
 kept a tryAllocate s = allocated-kept a s
-kept a (markUsed p) s = refusedOr-either (λ (x : Change). Sound (x .allocator)) (pageCheck a (record { 0 = p })) _ _ (λ why. s) (λ e.
+kept a (markUsed p) s = refusedOr-either (λ (x : Change). Sound (x .allocator)) (ownPageCheck a (record { 0 = p })) _ _ (λ why. s) (λ e.
     let below = fine-page a (record { 0 = p }) e .1 in
     either Sound (isMarked (a .pages) p) _ _ (λ m. s) (λ m. (marked-sized a p (s .0), marked-in a p (s .0) (s .1) below m)))
 kept a (free p) s = freed-kept a p s

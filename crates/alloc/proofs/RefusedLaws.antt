@@ -10,7 +10,7 @@ use Rattle.types.specs.Answers.{outcomeTold}
 use Rattle.alloc.specs.Answers.{allocatedTold, pagesTold}
 use Rattle.alloc.specs.Calls as calls
 use Rattle.alloc.specs.Calls.{nextFree, done, refusedChange, refusedAllocation, handingOut}
-use Rattle.alloc.specs.Checks.{stateCheck, pageCheck, countCheck}
+use Rattle.alloc.specs.Checks.{stateCheck, ownPageCheck, countCheck}
 use Rattle.alloc.specs.History.{Call, reset, tryAllocate, markUsed, free, isUsed, usedPages, freePages, pageCount, margin, tryAllocateEach, freeEach, answerTo, leftBy}
 use Rattle.alloc.specs.Marks.{isMarked}
 use Rattle.alloc.specs.Several as several
@@ -73,9 +73,9 @@ unfolding answerTo leftBy calls.reset calls.tryAllocate calls.markUsed calls.fre
 refused-kept a (reset count seed) n = checked (countCheck count) a _ (done-honest a (allFree count (seed % count))) n
 refused-kept a tryAllocate n = handed-honest (stateCheck a) a (nextFree a) n
 refused-kept a (markUsed p) n =
-    checked (pageCheck a (record { 0 = p })) a _ (picked (isMarked (a .pages) p) a _ _ (refused-honest a Corrupted) (done-honest a (marked a p))) n
+    checked (ownPageCheck a (record { 0 = p })) a _ (picked (isMarked (a .pages) p) a _ _ (refused-honest a Corrupted) (done-honest a (marked a p))) n
 refused-kept a (free p) n =
-    checked (pageCheck a (record { 0 = p })) a _ (picked (isMarked (a .pages) p) a _ _ (done-honest a (freed a p)) (refused-honest a Corrupted)) n
+    checked (ownPageCheck a (record { 0 = p })) a _ (picked (isMarked (a .pages) p) a _ _ (done-honest a (freed a p)) (refused-honest a Corrupted)) n
 refused-kept a (isUsed p) n = refl
 refused-kept a usedPages n = refl
 refused-kept a freePages n = refl

@@ -15,7 +15,7 @@ use Rattle.types.specs.declared.refusal.Refusal.{Refusal}
 use Rattle.types.specs.declared.refusal.Refusal.the-variants.{Corrupted, OutOfRange}
 use Rattle.types.specs.declared.refusal.Verdict.the-variants.{Fine, Refused}
 use Rattle.alloc.specs.Calls.{nextFree, tryAllocate, free, done, refusedChange}
-use Rattle.alloc.specs.Checks.{stateCheck, pageCheck}
+use Rattle.alloc.specs.Checks.{stateCheck, ownPageCheck}
 use Rattle.alloc.specs.Marks.{isMarked, marking, freeing}
 use Rattle.alloc.specs.Several.{Handed, nothingHanded, handedBy, refusedAllocations, tryAllocateEach, placesAfter, freeOn, freeEach}
 use Rattle.alloc.specs.State.{marked, freed, movedPast}
@@ -146,8 +146,8 @@ refused-free a pages why e = rw e
 
 -- the first page of some
 module _ (start a : Allocator) (p : ℕ) (rest : List ℕ) (r : InRange a) where
-  page-there : p < a .«page_count» → pageCheck a (record { 0 = p }) ≡ Fine
-  unfolding pageCheck
+  page-there : p < a .«page_count» → ownPageCheck a (record { 0 = p }) ≡ Fine
+  unfolding ownPageCheck
   page-there below = rw (is-in-range a r, lt-ltb p (a .«page_count») below)
 
   first-freed : p < a .«page_count» → isMarked (a .pages) p ≡ true → freeOn start (p ∷ rest) a ≡ freeOn start rest (freed a p)
@@ -159,7 +159,7 @@ module _ (start a : Allocator) (p : ℕ) (rest : List ℕ) (r : InRange a) where
   first-free-already below unused = rw (page-there below, unused)
 
   first-past : a .«page_count» ≤ p → freeOn start (p ∷ rest) a ≡ refusedChange start OutOfRange
-  unfolding freeOn free pageCheck
+  unfolding freeOn free ownPageCheck
   first-past past = rw (is-in-range a r, le-ltb p (a .«page_count») past)
 
 module _ (start : Allocator) (pages : List ℕ) (i : ℕ) (a : Allocator) (h : Freeing start pages i a) where

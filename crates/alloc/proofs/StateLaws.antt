@@ -14,7 +14,7 @@ use Rattle.types.specs.declared.refusal.Refusal.{Refusal}
 use Rattle.types.specs.declared.refusal.Refusal.the-variants.{OutOfRange, BadCount, BadState}
 use Rattle.types.proofs.CheckLaws.{asking-fine}
 use Rattle.types.proofs.TestLaws.{both-true}
-use Rattle.alloc.specs.Checks.{stateCheck, pageCheck, wantedCheck, countCheck}
+use Rattle.alloc.specs.Checks.{stateCheck, ownPageCheck, wantedCheck, countCheck}
 use Rattle.alloc.specs.Marks.{marksOf, isMarked, countOf}
 use Rattle.alloc.specs.State.{Sized, nextFits, inRange}
 use Rattle.alloc.specs.declared.allocator.Allocator.{Allocator}
@@ -99,15 +99,15 @@ pub state-fine : (a : Allocator) → InRange a → stateCheck a ≡ Fine
 unfolding stateCheck
 state-fine a r = rw (is-in-range a r)
 
-pub fine-page : (a : Allocator) (page : PageID) → pageCheck a page ≡ Fine → InRange a × (page .0 < a .«page_count»)
-unfolding pageCheck
+pub fine-page : (a : Allocator) (page : PageID) → ownPageCheck a page ≡ Fine → InRange a × (page .0 < a .«page_count»)
+unfolding ownPageCheck
 fine-page a page e =
     let s = asking-fine (inRange a) BadState (asking (ltb (page .0) (a .«page_count»)) OutOfRange Fine) e in
     let t = asking-fine (ltb (page .0) (a .«page_count»)) OutOfRange Fine (s .1) in
     (in-range a (s .0), ltb-true (page .0) (a .«page_count») (t .0))
 
 -- so the page has a mark
-pub page-below : (a : Allocator) (page : PageID) (p : ℕ) → pageCheck a page ≡ Fine → p ≡ page .0 → p < maxPageCount
+pub page-below : (a : Allocator) (page : PageID) (p : ℕ) → ownPageCheck a page ≡ Fine → p ≡ page .0 → p < maxPageCount
 page-below a page p e is = omega (arith, fine-page a page e .0 .few, fine-page a page e .1)
 
 pub fine-wanted : (a : Allocator) (wanted : ℕ) → wantedCheck a wanted ≡ Fine → (wanted ≤ maxPageCount) × InRange a

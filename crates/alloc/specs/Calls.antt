@@ -9,7 +9,7 @@ use Rattle.types.specs.declared.page_id.MaybePageID.{MaybePageID}
 use Rattle.types.specs.declared.page_id.MaybePageID.the-variants.{None, Some}
 use Rattle.types.specs.declared.refusal.Refusal.{Refusal}
 use Rattle.types.specs.declared.refusal.Refusal.the-variants.{Corrupted}
-use Rattle.alloc.specs.Checks.{stateCheck, pageCheck, wantedCheck, countCheck}
+use Rattle.alloc.specs.Checks.{stateCheck, ownPageCheck, wantedCheck, countCheck}
 use Rattle.alloc.specs.Marks.{marksOf, isMarked}
 use Rattle.alloc.specs.Search.{roundFrom, firstFree}
 use Rattle.alloc.specs.State.{allFree, marked, freed, movedPast}
@@ -45,11 +45,11 @@ reset a count seed = refusedOr (countCheck count) (refusedChange a) (done (allFr
 
 -- mark_used: 1 where the page is used already
 unfoldable pub markUsed : Allocator → PageID → Change
-markUsed a page = refusedOr (pageCheck a page) (refusedChange a) (cond (isMarked (a .pages) (page .0)) (corrupted a) (done (marked a (page .0))))
+markUsed a page = refusedOr (ownPageCheck a page) (refusedChange a) (cond (isMarked (a .pages) (page .0)) (corrupted a) (done (marked a (page .0))))
 
 -- free: 1 where the page is free already
 unfoldable pub free : Allocator → PageID → Change
-free a page = refusedOr (pageCheck a page) (refusedChange a) (cond (isMarked (a .pages) (page .0)) (done (freed a (page .0))) (corrupted a))
+free a page = refusedOr (ownPageCheck a page) (refusedChange a) (cond (isMarked (a .pages) (page .0)) (done (freed a (page .0))) (corrupted a))
 
 -- the first free page from the next one on, round
 abbrev pub nextFree : Allocator → MaybePageID
@@ -72,7 +72,7 @@ tryAllocate a = refusedOr (stateCheck a) (refusedAllocation a) (handingOut a (ne
 
 -- is_used
 unfoldable pub isUsed : Allocator → PageID → Usage
-isUsed a page = refusedOr (pageCheck a page) usage.Refused (cond (isMarked (a .pages) (page .0)) usage.Used usage.Free)
+isUsed a page = refusedOr (ownPageCheck a page) usage.Refused (cond (isMarked (a .pages) (page .0)) usage.Used usage.Free)
 
 -- used_pages, free_pages, page_count
 unfoldable pub usedPages : Allocator → Count

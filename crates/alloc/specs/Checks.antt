@@ -16,8 +16,8 @@ unfoldable pub stateCheck : Allocator → Verdict
 stateCheck a = asking (inRange a) BadState Fine
 
 -- 11, then 4, of a call that is given a page
-unfoldable pub pageCheck : Allocator → PageID → Verdict
-pageCheck a page = asking (inRange a) BadState (asking (ltb (page .0) (a .«page_count»)) OutOfRange Fine)
+unfoldable pub ownPageCheck : Allocator → PageID → Verdict
+ownPageCheck a page = asking (inRange a) BadState (asking (ltb (page .0) (a .«page_count»)) OutOfRange Fine)
 
 -- 7, then 11, of margin
 unfoldable pub wantedCheck : Allocator → ℕ → Verdict

@@ -12,8 +12,8 @@ pub record Row : Type 0 where
   pub answers : List Told
 
 -- what the definitions make of a row's calls
-unfoldable pub outcomeOf : Row → List Told
-outcomeOf row = answersTo (allFree 0 0) (row .calls)
+unfoldable pub resultOf : Row → List Told
+resultOf row = answersTo (allFree 0 0) (row .calls)
 
 -- reset(4, 7): pages 3, 0, 1, 2, none; free page 1, next page 1
 abbrev pub inTurn : Row

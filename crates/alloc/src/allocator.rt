@@ -94,7 +94,7 @@ impl Allocator {
     pub fn mark_used(self, page: PageID) -> Change
         ensures answers { λ r. ⌜ r ≡ markUsed self page ⌝ }
     {
-        if let Verdict::Refused(why) = checks::check_page(self, page) {
+        if let Verdict::Refused(why) = checks::check_own_page(self, page) {
             return Change {
                 answer: Outcome::Refused(why),
                 allocator: self,
@@ -116,7 +116,7 @@ impl Allocator {
     pub fn free(self, page: PageID) -> Change
         ensures answers { λ r. ⌜ r ≡ free self page ⌝ }
     {
-        if let Verdict::Refused(why) = checks::check_page(self, page) {
+        if let Verdict::Refused(why) = checks::check_own_page(self, page) {
             return Change {
                 answer: Outcome::Refused(why),
                 allocator: self,
@@ -138,7 +138,7 @@ impl Allocator {
     pub fn is_used(self, page: PageID) -> Usage
         ensures answers { λ r. ⌜ r ≡ isUsed self page ⌝ }
     {
-        if let Verdict::Refused(why) = checks::check_page(self, page) {
+        if let Verdict::Refused(why) = checks::check_own_page(self, page) {
             return Usage::Refused(why);
         }
         if marks::is_marked(&self.pages, page.index()) {

@@ -1,6 +1,6 @@
 // The checks before a call's work, in their order (docs/RULES.md, Order of checks).
 ghost use mathlib.Core.Path.{_≡_};
-ghost use Rattle.alloc.specs.Checks.{stateCheck, pageCheck, wantedCheck, countCheck};
+ghost use Rattle.alloc.specs.Checks.{stateCheck, ownPageCheck, wantedCheck, countCheck};
 use crate::allocator::Allocator;
 use crate::state;
 use types::config::MAX_PAGE_COUNT;
@@ -18,8 +18,8 @@ pub(crate) fn check_state(a: Allocator) -> Verdict
     }
 }
 
-pub(crate) fn check_page(a: Allocator, page: PageID) -> Verdict
-    ensures answers { λ r. ⌜ r ≡ pageCheck a page ⌝ }
+pub(crate) fn check_own_page(a: Allocator, page: PageID) -> Verdict
+    ensures answers { λ r. ⌜ r ≡ ownPageCheck a page ⌝ }
 {
     if let Verdict::Refused(why) = check_state(a) {
         return Verdict::Refused(why);

@@ -19,13 +19,13 @@ use Rattle.types.specs.declared.answers.Outcome.{Outcome}
 use Rattle.types.specs.declared.answers.Outcome.the-variants as outcome
 use Rattle.reader.specs.declared.answers.Passage.{Passage}
 use Rattle.reader.specs.declared.page_reader.PageReader.{PageReader}
-use Rattle.bench_jobs.specs.Readings.{ReadState, readState, putAt, afterRead, passed, readFrom, readOne, readWhileOn, readPieces, readingAt, openedAs, readPage, toldOf}
-use Rattle.bench_jobs.specs.Telling.{told}
+use Rattle.bench_jobs.specs.Readings.{ReadState, readState, nextAt, afterRead, passed, readFrom, readOne, readWhileOn, readPieces, readingAt, openedAs, readPage, packedOf}
+use Rattle.bench_jobs.specs.Telling.{packed}
 use Rattle.bench_jobs.specs.declared.reading.Reading.{Reading}
 
 -- ---- one read
 
-module _ (flash out : List ℕ) (r : Reading) (from : ℕ) (at : from ≡ putAt out r) where
+module _ (flash out : List ℕ) (r : Reading) (from : ℕ) (at : from ≡ nextAt out r) where
   -- the lent part is the rest
   fits : length (drop from out) ≤ length out - from
   fits = simp length-drop (omega arith)
@@ -123,8 +123,8 @@ module _ (flash : List ℕ) (magic page h : ℕ) (out : List ℕ) (new : PageRea
       ap (λ (r : Reading). readPieces flash (readState r out))
       (begun ∙ ap openedAs (opened ∙ ap (λ (s : PageReader). openPage s flash magic (record { 0 = page }) h) made))
 
-  pub page-read : (r : Reading) (n : ℕ) → r ≡ readPieces flash (readState start out) .reading → n ≡ told (r .why) (r .put) → n ≡ toldOf (readPage flash magic page h out)
-  page-read r n all tells = tells ∙ ap (λ (x : Reading). told (x .why) (x .put)) all ∙ ap toldOf started
+  pub page-read : (r : Reading) (n : ℕ) → r ≡ readPieces flash (readState start out) .reading → n ≡ packed (r .why) (r .put) → n ≡ packedOf (readPage flash magic page h out)
+  page-read r n all tells = tells ∙ ap (λ (x : Reading). packed (x .why) (x .put)) all ∙ ap packedOf started
 
   pub page-out : (ys : List ℕ) → ys ≡ readPieces flash (readState start out) .out → ys ≡ readPage flash magic page h out .out
   page-out ys all = all ∙ ap (λ (s : ReadState). s .out) started

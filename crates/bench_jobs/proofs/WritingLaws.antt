@@ -23,7 +23,7 @@ use Rattle.writer.specs.declared.answers.Taking.{Taking}
 use Rattle.writer.specs.declared.answers.Taking.the-variants as taking
 use Rattle.writer.specs.declared.answers.Wrote.{Wrote}
 use Rattle.writer.specs.declared.page_writer.PageWriter.{PageWriter}
-use Rattle.bench_jobs.specs.Telling.{told}
+use Rattle.bench_jobs.specs.Telling.{packed}
 use Rattle.bench_jobs.specs.Writings.{WriteState, writeState, afterHeader, writeBegunAt, writeBegunBy, writeBegun, Fits}
 use Rattle.bench_jobs.specs.Writings.{afterTaking, afterWrite, writeBytes, writeFrom, writeOne, writeOn, writeAll, commitOf, writeFinished, writeFinishedFlash, writePage}
 use Rattle.bench_jobs.specs.declared.writing.Writing.{Writing}
@@ -165,12 +165,12 @@ module _ (w : Writing) (flash : List ℕ) where
 
   -- by whether nothing was refused
   abbrev tellsBy : Bool → ℕ
-  tellsBy b = cond b (told (outcomeTold (done .answer) .number) (w .taken)) (told (w .why) (w .taken))
+  tellsBy b = cond b (packed (outcomeTold (done .answer) .number) (w .taken)) (packed (w .why) (w .taken))
 
   abbrev leavesBy : Bool → List ℕ
   leavesBy b = cond b behind flash
 
-  pub finished-refused : (n : ℕ) → (w .why ≡ 0 → ⊥) → n ≡ told (w .why) (w .taken)
+  pub finished-refused : (n : ℕ) → (w .why ≡ 0 → ⊥) → n ≡ packed (w .why) (w .taken)
       → (n ≡ writeFinished (writeState w flash)) × (flash ≡ writeFinishedFlash (writeState w flash))
   unfolding writeFinished writeFinishedFlash
   finished-refused n refused tells =
@@ -178,11 +178,11 @@ module _ (w : Writing) (flash : List ℕ) where
       (tells ∙ sym (ap tellsBy b), sym (ap leavesBy b))
 
   pub finished-done : (e : Ended) (flash′ : List ℕ) (k n : ℕ) → w .why ≡ 0 → e ≡ done → flash′ ≡ behind → k ≡ outcomeTold (e .answer) .number
-      → n ≡ told k (w .taken) → (n ≡ writeFinished (writeState w flash)) × (flash′ ≡ writeFinishedFlash (writeState w flash))
+      → n ≡ packed k (w .taken) → (n ≡ writeFinished (writeState w flash)) × (flash′ ≡ writeFinishedFlash (writeState w flash))
   unfolding writeFinished writeFinishedFlash
   finished-done e flash′ k n fine commits stores number tells =
       let b : eqb (w .why) 0 ≡ true = eq-eqb (w .why) 0 fine in (
-        tells ∙ ap (λ (x : ℕ). told x (w .taken)) (number ∙ ap (λ (x : Ended). outcomeTold (x .answer) .number) commits) ∙ sym (ap tellsBy b),
+        tells ∙ ap (λ (x : ℕ). packed x (w .taken)) (number ∙ ap (λ (x : Ended). outcomeTold (x .answer) .number) commits) ∙ sym (ap tellsBy b),
         stores ∙ sym (ap leavesBy b),
       )
 

@@ -15,7 +15,7 @@ use Rattle.types.specs.declared.answers.Outcome.{Outcome}
 use Rattle.types.specs.declared.answers.Outcome.the-variants as outcome
 use Rattle.reader.specs.declared.answers.Passage.{Passage}
 use Rattle.reader.specs.declared.page_reader.PageReader.{PageReader}
-use Rattle.bench_jobs.specs.Telling.{told}
+use Rattle.bench_jobs.specs.Telling.{packed}
 use Rattle.bench_jobs.specs.declared.reading.Reading.{Reading}
 
 -- a reader on its way, and the buffer
@@ -27,8 +27,8 @@ abbrev pub readState : Reading → List ℕ → ReadState
 readState r out = record { reading = r; out = out }
 
 -- where the next byte goes
-abbrev pub putAt : List ℕ → Reading → ℕ
-putAt out r = min (r .put) (length out)
+abbrev pub nextAt : List ℕ → Reading → ℕ
+nextAt out r = min (r .put) (length out)
 
 -- after a read: nothing and a refusal end it
 abbrev pub afterRead : ℕ → Count → PageReader → Reading
@@ -47,7 +47,7 @@ readFrom from flash s =
     }
 
 unfoldable pub readOne : List ℕ → ReadState → ReadState
-readOne flash s = readFrom (putAt (s .out) (s .reading)) flash s
+readOne flash s = readFrom (nextAt (s .out) (s .reading)) flash s
 
 -- at most n reads, while it goes on
 unfoldable pub readWhileOn : ℕ → List ℕ → ReadState → ReadState
@@ -70,5 +70,5 @@ openedAs o = readingAt (o .reader) (o .answer)
 unfoldable pub readPage : List ℕ → ℕ → ℕ → ℕ → List ℕ → ReadState
 readPage flash magic page h out = readPieces flash (readState (openedAs (openPage newReader flash magic (record { 0 = page }) h)) out)
 
-abbrev pub toldOf : ReadState → ℕ
-toldOf s = told (s .reading .why) (s .reading .put)
+abbrev pub packedOf : ReadState → ℕ
+packedOf s = packed (s .reading .why) (s .reading .put)

@@ -6,5 +6,5 @@ abbrev pub mixed : ℕ → ℕ → ℕ
 mixed sum x = sum % 0x1_0000_0000 * 31 + x % 0x1_0000_0000
 
 -- the number of the row that refused, 0 where none did, above the lowest 32 bits of a number of bytes
-abbrev pub told : ℕ → ℕ → ℕ
-told why bytes = why * 0x1_0000_0000 + bytes % 0x1_0000_0000
+abbrev pub packed : ℕ → ℕ → ℕ
+packed why bytes = why * 0x1_0000_0000 + bytes % 0x1_0000_0000

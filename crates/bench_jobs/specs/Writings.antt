@@ -19,7 +19,7 @@ use Rattle.writer.specs.declared.answers.Taking.{Taking}
 use Rattle.writer.specs.declared.answers.Taking.the-variants as taking
 use Rattle.writer.specs.declared.answers.Wrote.{Wrote}
 use Rattle.writer.specs.declared.page_writer.PageWriter.{PageWriter}
-use Rattle.bench_jobs.specs.Telling.{told}
+use Rattle.bench_jobs.specs.Telling.{packed}
 use Rattle.bench_jobs.specs.declared.writing.Writing.{Writing}
 
 -- a writer on its way, and the flash
@@ -104,8 +104,8 @@ commitOf s = commitDuty eraseValue (s .flash) (s .writing .writer)
 unfoldable pub writeFinished : WriteState → ℕ
 writeFinished s =
     cond (eqb (s .writing .why) 0)
-    (told (outcomeTold (handsBack (commitOf s) (s .writing .writer) (s .writing .left) .answer) .number) (s .writing .taken))
-    (told (s .writing .why) (s .writing .taken))
+    (packed (outcomeTold (handsBack (commitOf s) (s .writing .writer) (s .writing .left) .answer) .number) (s .writing .taken))
+    (packed (s .writing .why) (s .writing .taken))
 
 unfoldable pub writeFinishedFlash : WriteState → List ℕ
 writeFinishedFlash s = cond (eqb (s .writing .why) 0) (leaves (commitOf s) (s .writing .writer) (s .writing .left) (s .flash)) (s .flash)

@@ -1,5 +1,5 @@
 // A page, read to its end or to its first empty chunk, where a read answers 0 too.
-use crate::telling::told;
+use crate::telling::packed;
 use reader::answers::Count;
 use reader::page_reader::PageReader;
 use types::answers::Outcome;
@@ -10,7 +10,7 @@ ghost use mathlib.Core.Path.{_≡_};
 ghost use lib.ListN.{length};
 ghost use Rattle.reader.specs.Calls.{openBytes};
 ghost use Rattle.reader.specs.States.{newReader};
-ghost use Rattle.bench_jobs.specs.Readings.{readState, readOne, readPieces, readingAt, readPage, toldOf};
+ghost use Rattle.bench_jobs.specs.Readings.{readState, readOne, readPieces, readingAt, readPage, packedOf};
 
 // A reader on its way: how many bytes it put, whether it goes on, and the number of the row that refused.
 pub struct Reading {
@@ -92,7 +92,7 @@ pub extern "C" fn puffcradle_read_page(
     header: &mut [u8],
     out: &mut [u8],
 ) -> u64
-    ensures answers { λ r. ⌜ r ≡ toldOf (readPage (now (flash .entry)) magic page (length (now (header .entry))) (now (out .entry))) ⌝ }
+    ensures answers { λ r. ⌜ r ≡ packedOf (readPage (now (flash .entry)) magic page (length (now (header .entry))) (now (out .entry))) ⌝ }
     ensures header { λ _. ⌜ now (header .exit) ≡ openBytes newReader (now (flash .entry)) magic (record { 0 = page }) (now (header .entry)) ⌝ }
     ensures out { λ _. ⌜ now (out .exit) ≡ readPage (now (flash .entry)) magic page (length (now (header .entry))) (now (out .entry)) .out ⌝ }
 {
@@ -100,5 +100,5 @@ pub extern "C" fn puffcradle_read_page(
     let answer = opening.answer;
     let reader = opening.reader;
     let r = read_pieces(reading_at(reader, answer), flash, out);
-    told(r.why, r.put)
+    packed(r.why, r.put)
 }

@@ -1,6 +1,6 @@
 // What a job tells in one number.
 ghost use mathlib.Core.Path.{_≡_};
-ghost use Rattle.bench_jobs.specs.Telling.{mixed, told};
+ghost use Rattle.bench_jobs.specs.Telling.{mixed, packed};
 
 // A running sum with one more number in it.
 pub(crate) fn mixed(sum: u64, x: u64) -> u64
@@ -10,8 +10,8 @@ pub(crate) fn mixed(sum: u64, x: u64) -> u64
 }
 
 // A number of bytes, below the number of the row that refused.
-pub(crate) fn told(why: u8, bytes: usize) -> u64
-    ensures answers { λ r. ⌜ r ≡ told why bytes ⌝ }
+pub(crate) fn packed(why: u8, bytes: usize) -> u64
+    ensures answers { λ r. ⌜ r ≡ packed why bytes ⌝ }
 {
     (why as u64) * 0x1_0000_0000 + (bytes as u64) % 0x1_0000_0000
 }

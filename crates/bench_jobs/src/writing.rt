@@ -1,5 +1,5 @@
 // A page, written anew and committed.
-use crate::telling::told;
+use crate::telling::packed;
 use slices::part::part_of;
 use types::answers::Outcome;
 use types::config::PAGE_SIZE;
@@ -116,12 +116,12 @@ fn write_finished(w: Writing, flash: &mut [u8]) -> u64
     ensures bytes { λ _. ⌜ now (flash .exit) ≡ writeFinishedFlash (writeState w (now (flash .entry))) ⌝ }
 {
     if w.why != 0 {
-        return told(w.why, w.taken);
+        return packed(w.why, w.taken);
     }
     let writer = w.writer;
     let done = writer.commit(flash, w.left);
     let answer = done.answer;
-    told(answer.number(), w.taken)
+    packed(answer.number(), w.taken)
 }
 
 // Opens a page to write it anew, stores its header, writes the payload in pieces and commits. What was taken, and why it was refused.

@@ -14,7 +14,7 @@ use Rattle.reader.specs.declared.answers.Dehydration.{Dehydration}
 use Rattle.reader.specs.declared.answers.Dehydration.the-variants as dehydration
 use Rattle.reader.specs.declared.page_reader.PageReader.{PageReader}
 use Rattle.claims.specs.Again.{Left, IsRefused, ReaderCall, readsHeader, opens, reads, skips, asksForItsEnd, dehydrates, rehydrates, asksItsPage, readerLeft}
-use Rattle.claims.specs.ReaderHistories.{Origin, Kept, Held, statesOf, atFirst, Asked, leftBy, originBy, slotFilled, slotsBy, afterCall, NoneUnchecked}
+use Rattle.claims.specs.ReaderHistories.{Origin, Kept, Held, statesOf, atFirst, Asked, callLeaves, originBy, slotFilled, slotsBy, afterCall, NoneUnchecked}
 use Rattle.claims.proofs.AskedAgain.{kept}
 use Rattle.claims.proofs.KnownLaws.{calls-known, first-known, call-puts}
 
@@ -28,7 +28,7 @@ dehydration-refused : (a : Dehydration) → (dehydrationTold a .number ≡ 0 →
 dehydration-refused (dehydration.State d) e = absurd (e refl)
 dehydration-refused (dehydration.Refused w) e = (w, refl)
 
-slots-kept : (flash : List ℕ) (k : Held) (call : ReaderCall) (lent : List ℕ) → IsRefused (leftBy flash k (record { call = call; lent = lent })) → slotsBy k call ≡ k .slots
+slots-kept : (flash : List ℕ) (k : Held) (call : ReaderCall) (lent : List ℕ) → IsRefused (callLeaves flash k (record { call = call; lent = lent })) → slotsBy k call ≡ k .slots
 unfolding readerLeft
 slots-kept flash k (readsHeader magic page) lent e = refl
 slots-kept flash k (opens magic page) lent e = refl
@@ -39,15 +39,15 @@ slots-kept flash k (dehydrates slot) lent e = ap (λ (a : Dehydration). slotFill
 slots-kept flash k (rehydrates slot) lent e = refl
 slots-kept flash k asksItsPage lent e = refl
 
-refused-keeps : (flash : List ℕ) (k : Held) (a : Asked) → IsRefused (leftBy flash k a) → (leftBy flash k a .lent ≡ a .lent) × (afterCall flash k a ≡ k)
+refused-keeps : (flash : List ℕ) (k : Held) (a : Asked) → IsRefused (callLeaves flash k a) → (callLeaves flash k a .lent ≡ a .lent) × (afterCall flash k a ≡ k)
 unfolding afterCall
 refused-keeps flash k a e =
     let same = kept flash (statesOf k) (k .reader) (a .call) (a .lent) e in
-    let left : leftBy flash k a ≡ record { number = same .0; state = k .reader; lent = a .lent } = same .1 (a .lent) refl in (
+    let left : callLeaves flash k a ≡ record { number = same .0; state = k .reader; lent = a .lent } = same .1 (a .lent) refl in (
       ap (λ (x : Left PageReader (List ℕ)). x .lent) left,
-      held-is (leftBy flash k a .state) (k .reader) (cond (eqb (leftBy flash k a .number) 0) (originBy k (a .call) (a .lent)) (k .origin)) (k .origin) (slotsBy k (a .call)) (k .slots)
+      held-is (callLeaves flash k a .state) (k .reader) (cond (eqb (callLeaves flash k a .number) 0) (originBy k (a .call) (a .lent)) (k .origin)) (k .origin) (slotsBy k (a .call)) (k .slots)
           (ap (λ (x : Left PageReader (List ℕ)). x .state) left)
-          (ap (λ (t : Bool). cond t (originBy k (a .call) (a .lent)) (k .origin)) (ne-eqb (leftBy flash k a .number) 0 e))
+          (ap (λ (t : Bool). cond t (originBy k (a .call) (a .lent)) (k .origin)) (ne-eqb (callLeaves flash k a .number) 0 e))
           (slots-kept flash k (a .call) (a .lent) e),
     )
 

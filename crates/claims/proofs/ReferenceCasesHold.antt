@@ -12,7 +12,7 @@ use Rattle.alloc.specs.Rows as allocations
 use Rattle.alloc.proofs.RowsHold.{rows-hold}
 use Rattle.writer.specs.ReferenceCases as additions
 use Rattle.writer.proofs.ReferenceCasesHold as addition-claims
-use Rattle.claims.specs.ReferenceCases.{Case, addition, walk, allocation, merge, recordBytes, added, walked, allocated, merged, says, outcomeOf, expected, referenceCases}
+use Rattle.claims.specs.ReferenceCases.{Case, addition, walk, allocation, merge, recordBytes, added, walked, allocated, merged, says, resultOf, expected, referenceCases}
 
 -- ---- lists that are the same
 
@@ -57,13 +57,13 @@ kinds (c ∷ cs) = put c (kinds cs)
 record Hold (k : Kinds) : Type 0 where
   h-adds : map additions.resultOf (k .adds) ≡ map additions.expected (k .adds)
   h-steps : map walks.walkOutcome (k .steps) ≡ map (λ (c : walks.WalkCase). c .finds) (k .steps)
-  h-rows : map allocations.outcomeOf (k .rows) ≡ map (λ (c : allocations.Row). c .answers) (k .rows)
-  h-runs : map merges.outcomes (k .runs) ≡ map merges.expected (k .runs)
+  h-rows : map allocations.resultOf (k .rows) ≡ map (λ (c : allocations.Row). c .answers) (k .rows)
+  h-runs : map merges.effectsOf (k .runs) ≡ map merges.expected (k .runs)
   h-items : map records.recordOutcome (k .items) ≡ map (λ (c : records.RecordCase). c .says ∷ []) (k .items)
 
 -- so all of them do
-holds : (cs : List Case) → Hold (kinds cs) → map outcomeOf cs ≡ map expected cs
-unfolding outcomeOf expected
+holds : (cs : List Case) → Hold (kinds cs) → map resultOf cs ≡ map expected cs
+unfolding resultOf expected
 holds [] h = refl
 holds (addition c ∷ cs) h =
     both (ap added (same-first (h .h-adds)))
@@ -82,7 +82,7 @@ holds (recordBytes c ∷ cs) h =
     (holds cs (record { h-adds = h .h-adds; h-steps = h .h-steps; h-rows = h .h-rows; h-runs = h .h-runs; h-items = same-rest (h .h-items) }))
 
 -- all reference cases hold
-pub reference-cases-all : map outcomeOf referenceCases ≡ map expected referenceCases
+pub reference-cases-all : map resultOf referenceCases ≡ map expected referenceCases
 unfolding referenceCases additions.referenceCases merges.referenceCases
 reference-cases-all =
     holds referenceCases (record { h-adds = addition-claims.reference-cases-hold; h-steps = walk-table; h-rows = rows-hold; h-runs = merge-claims.reference-cases-hold; h-items = record-table })

@@ -27,7 +27,7 @@ use Rattle.reader.specs.States.{newReader}
 use Rattle.reader.specs.declared.answers.Count.the-variants as count
 use Rattle.reader.specs.declared.page_reader.PageReader.{PageReader}
 use Rattle.claims.specs.Again.{readerLeft}
-use Rattle.claims.specs.ReaderHistories.{atFirst, Asked, leftBy, afterCall, Among, Covered, NoneUnchecked}
+use Rattle.claims.specs.ReaderHistories.{atFirst, Asked, callLeaves, afterCall, Among, Covered, NoneUnchecked}
 use Rattle.claims.specs.Skips.{foundFrom, SkipIsRead}
 use Rattle.claims.specs.Worked.{workedMagic, workedPage, chunkOfOne}
 use Rattle.claims.specs.WorkedReads.{twoChunkFlash, emptyBetweenFlash, damagedFlash, openIt, readTwo, keepIt, bringItBack}
@@ -38,7 +38,7 @@ use Rattle.claims.proofs.SkipIsRead.{skip-is-read}
 -- after these calls a read answers with this number and leaves its buffer so
 abbrev Leaves : List Asked → ℕ → List ℕ → Type 0
 Leaves before number lent =
-    let left = leftBy damagedFlash (leftAfter (afterCall damagedFlash) atFirst before) readTwo in
+    let left = callLeaves damagedFlash (leftAfter (afterCall damagedFlash) atFirst before) readTwo in
     (left .number ≡ number) × (left .lent ≡ lent)
 
 -- the first read puts the byte of the good chunk; the next three ask for the damaged one, are refused with 1, and put nothing

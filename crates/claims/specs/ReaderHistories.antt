@@ -57,8 +57,8 @@ pub record Asked : Type 0 where
   pub lent : List ℕ
 
 -- what a call on the reader at hand leaves
-abbrev pub leftBy : List ℕ → Held → Asked → Left PageReader (List ℕ)
-leftBy flash k a = readerLeft flash (statesOf k) (a .call) (k .reader) (a .lent)
+abbrev pub callLeaves : List ℕ → Held → Asked → Left PageReader (List ℕ)
+callLeaves flash k a = readerLeft flash (statesOf k) (a .call) (k .reader) (a .lent)
 
 -- where the reader comes from that a call hands back, if the call is not refused
 abbrev pub originBy : Held → ReaderCall → List ℕ → Origin
@@ -89,8 +89,8 @@ slotsBy k asksItsPage = k .slots
 -- what is at hand after a call, refused or not; after any calls it is `leftAfter` of that
 unfoldable pub afterCall : List ℕ → Held → Asked → Held
 afterCall flash k a = record {
-  reader = leftBy flash k a .state;
-  origin = cond (eqb (leftBy flash k a .number) 0) (originBy k (a .call) (a .lent)) (k .origin);
+  reader = callLeaves flash k a .state;
+  origin = cond (eqb (callLeaves flash k a .number) 0) (originBy k (a .call) (a .lent)) (k .origin);
   slots = slotsBy k (a .call);
 }
 
@@ -153,4 +153,4 @@ Puts flash k asksItsPage lent = Unit
 -- no byte that is unchecked: what is put is covered, and a refused call puts none and changes neither reader nor slots
 pub record NoneUnchecked (flash : List ℕ) (k : Held) (a : Asked) : Type 0 where
   pub puts : Puts flash k (a .call) (a .lent)
-  pub refused : IsRefused (leftBy flash k a) → (leftBy flash k a .lent ≡ a .lent) × (afterCall flash k a ≡ k)
+  pub refused : IsRefused (callLeaves flash k a) → (callLeaves flash k a .lent ≡ a .lent) × (afterCall flash k a ≡ k)

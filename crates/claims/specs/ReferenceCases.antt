@@ -18,23 +18,23 @@ pub data Case : Type 0 where
   merge : merges.Case → Case
   recordBytes : records.RecordCase → Case
 
-pub data Outcome : Type 0 where
-  added : additions.Result → Outcome
-  walked : Step → Outcome
-  allocated : List Told → Outcome
-  merged : List merges.Outcome → Outcome
-  says : List Item → Outcome
+pub data Result : Type 0 where
+  added : additions.Result → Result
+  walked : Step → Result
+  allocated : List Told → Result
+  merged : List merges.Effect → Result
+  says : List Item → Result
 
 -- what comes out
-unfoldable pub outcomeOf : Case → Outcome
-outcomeOf (addition c) = added (additions.resultOf c)
-outcomeOf (walk c) = walked (walks.walkOutcome c)
-outcomeOf (allocation c) = allocated (allocations.outcomeOf c)
-outcomeOf (merge c) = merged (merges.outcomes c)
-outcomeOf (recordBytes c) = says (records.recordOutcome c)
+unfoldable pub resultOf : Case → Result
+resultOf (addition c) = added (additions.resultOf c)
+resultOf (walk c) = walked (walks.walkOutcome c)
+resultOf (allocation c) = allocated (allocations.resultOf c)
+resultOf (merge c) = merged (merges.effectsOf c)
+resultOf (recordBytes c) = says (records.recordOutcome c)
 
 -- what must come out
-unfoldable pub expected : Case → Outcome
+unfoldable pub expected : Case → Result
 expected (addition c) = added (additions.expected c)
 expected (walk c) = walked (c .finds)
 expected (allocation c) = allocated (c .answers)

@@ -1,6 +1,7 @@
 -- The tables of bounds, of room and of an entry before a refusal hold, case by case. Assumes nothing.
 use mathlib.Core.Path.{_≡_, refl}
 use mathlib.Core.List.{map, flatten}
+use Rattle.types.specs.Histories.{toldByEach}
 use Rattle.types.specs.Bytes.{word}
 use Rattle.run.specs.Bounds.{pastBy}
 use Rattle.keys.specs.Keys.{compareKeys}
@@ -14,14 +15,14 @@ use Rattle.cursor.specs.Next.{fitted, answerBy, placesBy, putBy, movedBy
 use Rattle.cursor.specs.Pass.{againstLowest, lookBy, lookHead, lookAt, lowestKey, lowestValue, shows, change, passFrom, passOf}
 use Rattle.cursor.specs.Runs.{startOf}
 use Rattle.cursor.specs.Settle.{isHidden, leftAt, sumTo, bytesAhead, settleFrom, settled}
-use Rattle.cursor.specs.ReferenceCases.{liveB, liveC, endsFrom, shownKey, shownValue, placesIn, outcomeOf, outcomesFrom, outcomes, given, expected, call}
+use Rattle.cursor.specs.ReferenceCases.{liveB, liveC, endsFrom, shownKey, shownValue, placesIn, effectOf, effectsOf, given, expected, call}
 use Rattle.cursor.specs.BoundTable.{BoundCase, RoomCase, threeKeys, boundCases, keysBy, keysFrom, boundOutcome, roomCases, roomOutcome, damagedRun}
 
 pub bound-table : (map boundOutcome boundCases ≡ map (λ (x : BoundCase). x .keys) boundCases)
-    × (map roomOutcome roomCases ≡ map (λ (x : RoomCase). x .number) roomCases) × (outcomes damagedRun ≡ expected damagedRun)
+    × (map roomOutcome roomCases ≡ map (λ (x : RoomCase). x .number) roomCases) × (effectsOf damagedRun ≡ expected damagedRun)
 unfolding word pastBy compareKeys partTo bodyAt headBy headAt soughtBy soughtHead soughtFrom searchIn risingEnds goodRuns goodPlace goodFrom
     goodPlaces newCheck nextCheck afterSearch newFrom newOf fitted answerBy placesBy over putBy movedBy nextOf nextKey againstLowest
     lookBy lookHead lookAt lowestKey shows change passFrom passOf startOf isHidden leftAt sumTo bytesAhead settleFrom settled liveB liveC
     lowestValue threeKeys boundCases keysBy keysFrom boundOutcome roomCases roomOutcome nextValue flatten endsFrom shownKey shownValue
-    placesIn outcomeOf outcomesFrom outcomes given expected call damagedRun
+    placesIn effectOf toldByEach effectsOf given expected call damagedRun
 bound-table = (refl, refl, refl)

@@ -5,6 +5,7 @@ use Prim.Native.Nat.{ℕ, _+_}
 use lib.ListN.{length, take, replicate}
 use Rattle.run.specs.RecordTable.{liveA, deletedA}
 use Rattle.run.specs.declared.bound.Bound.the-variants.{Unbounded}
+use Rattle.types.specs.Histories.{toldByEach}
 use Rattle.types.specs.Answers.{Told, answered}
 use Rattle.cursor.specs.Answers.{nextTold}
 use Rattle.cursor.specs.New.{newOf}
@@ -36,20 +37,20 @@ endsFrom from (run ∷ runs) = (from + length run) ∷ endsFrom (from + length r
 -- ---- the calls
 
 -- what is answered, the bytes put into the buffers, and the runs' places afterwards
-pub record Outcome : Type 0 where
+pub record Effect : Type 0 where
   pub told : Told
   pub key : List ℕ
   pub value : List ℕ
   pub places : List Place
 
-pub record Call : Type 0 where
+pub record CallCase : Type 0 where
   pub keyRoom : ℕ
   pub valueRoom : ℕ
-  pub gives : Outcome
+  pub gives : Effect
 
 pub record Case : Type 0 where
   pub runs : List (List ℕ)
-  pub calls : List Call
+  pub calls : List CallCase
 
 -- an entry's bytes stand at the buffer's start
 unfoldable pub shownKey : NextAnswer → List ℕ → List ℕ
@@ -67,8 +68,8 @@ placesIn [] = []
 placesIn (p ∷ places) = p .place ∷ placesIn places
 
 -- one call with fresh buffers, and with no upper bound
-unfoldable pub outcomeOf : List ℕ → List ℕ → Cursor → ℕ → ℕ → Outcome
-outcomeOf bytes ends c keyRoom valueRoom = record {
+unfoldable pub effectOf : List ℕ → List ℕ → Cursor → ℕ → ℕ → Effect
+effectOf bytes ends c keyRoom valueRoom = record {
   told = nextTold (nextOf bytes ends Unbounded [] c keyRoom valueRoom .answer);
   key = shownKey (nextOf bytes ends Unbounded [] c keyRoom valueRoom .answer)
       (nextKey bytes ends Unbounded [] c (replicate keyRoom 0) (replicate valueRoom 0));
@@ -77,28 +78,30 @@ outcomeOf bytes ends c keyRoom valueRoom = record {
   places = placesIn (take (length ends) (nextOf bytes ends Unbounded [] c keyRoom valueRoom .cursor .places));
 }
 
--- the calls in turn, each from where the one before left the cursor
-unfoldable pub outcomesFrom : List ℕ → List ℕ → Cursor → List Call → List Outcome
-outcomesFrom bytes ends c [] = []
-outcomesFrom bytes ends c (x ∷ calls) =
-    outcomeOf bytes ends c (x .keyRoom) (x .valueRoom)
-    ∷ outcomesFrom bytes ends (nextOf bytes ends Unbounded [] c (x .keyRoom) (x .valueRoom) .cursor) calls
+-- the cursor that it leaves to the next call
+abbrev pub cursorAfter : List ℕ → List ℕ → Cursor → CallCase → Cursor
+cursorAfter bytes ends c x = nextOf bytes ends Unbounded [] c (x .keyRoom) (x .valueRoom) .cursor
 
-unfoldable pub outcomes : Case → List Outcome
-outcomes x =
-    outcomesFrom (flatten (x .runs)) (endsFrom 0 (x .runs))
+-- the calls in turn, each from where the one before left the cursor
+abbrev pub effectsFrom : List ℕ → List ℕ → Cursor → List CallCase → List Effect
+effectsFrom bytes ends c calls =
+    toldByEach (cursorAfter bytes ends) (λ d x. effectOf bytes ends d (x .keyRoom) (x .valueRoom)) c calls
+
+unfoldable pub effectsOf : Case → List Effect
+effectsOf x =
+    effectsFrom (flatten (x .runs)) (endsFrom 0 (x .runs))
     (newOf (flatten (x .runs)) (endsFrom 0 (x .runs)) Unbounded [] .cursor) (x .calls)
 
-unfoldable pub given : List Call → List Outcome
+unfoldable pub given : List CallCase → List Effect
 given [] = []
 given (x ∷ calls) = x .gives ∷ given calls
 
-unfoldable pub expected : Case → List Outcome
+unfoldable pub expected : Case → List Effect
 expected x = given (x .calls)
 
 -- ---- the table
 
-unfoldable pub call : ℕ → ℕ → Told → List ℕ → List ℕ → List Place → Call
+unfoldable pub call : ℕ → ℕ → Told → List ℕ → List ℕ → List Place → CallCase
 call keyRoom valueRoom told key value places = record {
   keyRoom = keyRoom;
   valueRoom = valueRoom;

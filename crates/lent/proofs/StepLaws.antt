@@ -2,7 +2,7 @@
 use mathlib.Core.Path.{_≡_, ap, _∙_}
 use mathlib.Core.List.{List}
 use Prim.Native.Nat.{ℕ, _≤_, _<_}
-use borrow.Author.Tests.{lt-ltb, le-ltb}
+use borrow.Author.Tests.{le-leb, lt-leb}
 use lib.ListN.{length}
 use Rattle.types.specs.declared.refusal.Refusal.the-variants.{BadState}
 use Rattle.run.specs.Records.{headAt}
@@ -14,11 +14,11 @@ use Rattle.lent.specs.declared.step.Step.{Step}
 module _ (run : List ℕ) (at : ℕ) where
   pub head-past : length run < at → head.Refused BadState ≡ headWithin run at
   unfolding headWithin
-  head-past h = simp (lt-ltb (length run) at h)
+  head-past h = simp (lt-leb at (length run) h)
 
   pub head-in : at ≤ length run → headAt run at ≡ headWithin run at
   unfolding headWithin
-  head-in h = simp (le-ltb (length run) at h)
+  head-in h = simp (le-leb at (length run) h)
 
 -- a step is made of what stands there and of a place
 abbrev made : Head → ℕ → Step

@@ -132,7 +132,7 @@ isAtEof r flash = refusedOr (readerCheck (length flash) r) (refusedEndTest r) (t
 unfoldable pub dehydrate : PageReader → Dehydration
 dehydrate r = refusedOr (stateCheck r) dehydration.Refused (dehydration.State (stored r))
 
--- a kept reader: one at its end, or one whose chunk's payload has the sum that it kept
+-- a kept reader: one at its end, or one whose chunk's payload is all there and has the sum that it kept
 abbrev pub rehydrating : List ℕ → PageReader → Arrived
 rehydrating page s = cond (s .ended || payloadFine page (s .offset) (s .len) (s .crc)) (At s) Corrupted
 

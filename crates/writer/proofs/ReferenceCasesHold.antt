@@ -15,7 +15,7 @@ use Rattle.writer.specs.Calls.{answerTo, madeBy, leftBy}
 use Rattle.writer.specs.Commits.{chunkOps}
 use Rattle.writer.specs.Headings.{headerOps}
 use Rattle.writer.specs.Openings.{opened, appended}
-use Rattle.writer.specs.ReferenceCases.{extentOf, outcomeOf, resultOf, expected, referenceCases}
+use Rattle.writer.specs.ReferenceCases.{extentOf, effectOf, resultOf, expected, referenceCases}
 use Rattle.writer.specs.States.{inRange}
 use Rattle.writer.specs.Checks.{writerCheck, headingCheck}
 use Rattle.writer.specs.Writes.{groupOf, bufferOf, payloadOps, takingOps}
@@ -23,6 +23,6 @@ use Rattle.writer.specs.Writes.{groupOf, bufferOf, payloadOps, takingOps
 pub reference-cases-hold : map resultOf referenceCases ≡ map expected referenceCases
 unfolding word bytesOf crc.bits crc.number crc.message crc.among crc.terms crc.generator xor crc.plus crc.divided crc.dividend crc.remainder
     crc.published tap stepped steps taken updated over patch blank chunkHeader chunkAt pageHeader walk walkFrom allErased answerTo madeBy leftBy
-    leftAfter toldByEach chunkOps headerOps opened appended extentOf outcomeOf resultOf expected referenceCases inRange writerCheck headingCheck
+    leftAfter toldByEach chunkOps headerOps opened appended extentOf effectOf resultOf expected referenceCases inRange writerCheck headingCheck
     openCheck groupOf bufferOf payloadOps takingOps
 reference-cases-hold = refl

@@ -65,7 +65,7 @@ endTold w (heads magic header) end = outcomeTold (end .answer)
 
 -- an opening has its h and the number of stores for which the power is back
 pub data Call : Type 0 where
-  openPage openAppend : ℕ → ℕ → Call
+  opensAnew opensToAdd : ℕ → ℕ → Call
   adds : AddCall → Call
 
 abbrev firstPage : PageID
@@ -83,18 +83,18 @@ openedOn flash o = record { flash = flash; writer = o .writer; left = o .left }
 
 -- what it answers
 unfoldable pub answerTo : World → Call → Told
-answerTo x (openPage h power) = outcomeTold (openOf x h power .answer)
-answerTo x (openAppend h power) = outcomeTold (appendOf x h power .answer)
+answerTo x (opensAnew h power) = outcomeTold (openOf x h power .answer)
+answerTo x (opensToAdd h power) = outcomeTold (appendOf x h power .answer)
 answerTo x (adds call) = endTold (x .writer) call (handsBackIn eraseValue x call)
 
 -- the operations that it makes
 unfoldable pub madeBy : World → Call → List Op
-madeBy x (openPage h power) = []
-madeBy x (openAppend h power) = []
+madeBy x (opensAnew h power) = []
+madeBy x (opensToAdd h power) = []
 madeBy x (adds call) = makesIn eraseValue x call
 
 -- what it leaves
 unfoldable pub leftBy : World → Call → World
-leftBy x (openPage h power) = openedOn (x .flash) (openOf x h power)
-leftBy x (openAppend h power) = openedOn (x .flash) (appendOf x h power)
+leftBy x (opensAnew h power) = openedOn (x .flash) (openOf x h power)
+leftBy x (opensToAdd h power) = openedOn (x .flash) (appendOf x h power)
 leftBy x (adds call) = leavesIn eraseValue x call

@@ -9,7 +9,7 @@ use Rattle.types.specs.Build.{pageSize}
 use Rattle.types.specs.Histories.{leftAfter, toldByEach}
 use Rattle.flash.specs.Operations.{Op, erase, store}
 use Rattle.slices.specs.Patch.{blank}
-use Rattle.writer.specs.Calls.{World, AddCall, writes, commits, heads, Call, openPage, openAppend, adds, answerTo, madeBy, leftBy}
+use Rattle.writer.specs.Calls.{World, AddCall, writes, commits, heads, Call, opensAnew, opensToAdd, adds, answerTo, madeBy, leftBy}
 use Rattle.writer.specs.States.{newWriter}
 
 -- where a store or an erase lies in the page
@@ -22,33 +22,33 @@ extentOf (erase e) = record { from = 0; size = pageSize }
 extentOf (store at bytes) = record { from = at; size = length bytes }
 
 -- the answer, the stores made, and the writer's offset and pending bytes afterwards
-pub record Outcome : Type 0 where
+pub record Effect : Type 0 where
   pub told : Told
   pub stores : List Extent
   pub offset : ℕ
   pub pending : ℕ
 
-pub record Step : Type 0 where
+pub record StepCase : Type 0 where
   pub call : Call
-  pub gives : Outcome
+  pub gives : Effect
 
 pub record Case : Type 0 where
-  pub steps : List Step
+  pub steps : List StepCase
   pub from : ℕ
   pub bytes : List ℕ
 
 -- ---- what a case comes to
 
 pub record Result : Type 0 where
-  pub outcomes : List Outcome
+  pub effects : List Effect
   pub bytes : List ℕ
 
 -- a page of zeros, which a case has to open anew
 abbrev pub start : World
 start = record { flash = blank 0 pageSize; writer = newWriter; left = 0 }
 
-unfoldable pub outcomeOf : World → Call → Outcome
-outcomeOf x c =
+unfoldable pub effectOf : World → Call → Effect
+effectOf x c =
     record {
       told = answerTo x c;
       stores = map extentOf (madeBy x c);
@@ -57,17 +57,17 @@ outcomeOf x c =
     }
 
 abbrev pub callsOf : Case → List Call
-callsOf c = map (λ (s : Step). s .call) (c .steps)
+callsOf c = map (λ (s : StepCase). s .call) (c .steps)
 
 unfoldable pub resultOf : Case → Result
 resultOf c =
     record {
-      outcomes = toldByEach leftBy outcomeOf start (callsOf c);
+      effects = toldByEach leftBy effectOf start (callsOf c);
       bytes = take (length (c .bytes)) (drop (c .from) (leftAfter leftBy start (callsOf c) .flash));
     }
 
 unfoldable pub expected : Case → Result
-expected c = record { outcomes = map (λ (s : Step). s .gives) (c .steps); bytes = c .bytes }
+expected c = record { effects = map (λ (s : StepCase). s .gives) (c .steps); bytes = c .bytes }
 
 -- ---- the table
 
@@ -75,16 +75,16 @@ abbrev pub extent : ℕ → ℕ → Extent
 extent from size = record { from = from; size = size }
 
 -- an opening is done: it stores nothing, and the writer is at this offset
-abbrev pub opens : Call → ℕ → Step
+abbrev pub opens : Call → ℕ → StepCase
 opens call offset = record { call = call; gives = record { told = answered []; stores = []; offset = offset; pending = 0 } }
 
 -- a call is answered, with these values, stores, offset and pending bytes
-abbrev pub gives : AddCall → List ℕ → List Extent → ℕ → ℕ → Step
+abbrev pub gives : AddCall → List ℕ → List Extent → ℕ → ℕ → StepCase
 gives call values stores offset pending =
     record { call = adds call; gives = record { told = answered values; stores = stores; offset = offset; pending = pending } }
 
 -- a call is cut
-abbrev pub cut : AddCall → List Extent → ℕ → ℕ → Step
+abbrev pub cut : AddCall → List Extent → ℕ → ℕ → StepCase
 cut call stores offset pending =
     record {
       call = adds call;
@@ -92,9 +92,9 @@ cut call stores offset pending =
     }
 
 -- a page with its header, and further calls
-abbrev pub withHeader : List Step → List Step
+abbrev pub withHeader : List StepCase → List StepCase
 withHeader steps =
-    opens (openPage 0 2) 12 ∷ gives (heads 0xA1 []) [] (extent 0 4096 ∷ extent 0 12 ∷ []) 12 0 ∷ steps
+    opens (opensAnew 0 2) 12 ∷ gives (heads 0xA1 []) [] (extent 0 4096 ∷ extent 0 12 ∷ []) 12 0 ∷ steps
 
 -- magic 0xA1, page 0, h 0: A1 00 00 00, then eight 00
 abbrev pub header : Case
@@ -108,10 +108,10 @@ abbrev pub oneAdded : Case
 oneAdded =
     record {
       steps = withHeader
-          (opens (openAppend 0 2) 12
+          (opens (opensToAdd 0 2) 12
           ∷ gives (writes four) (4 ∷ []) (extent 20 4 ∷ []) 12 4
           ∷ gives commits [] (extent 12 8 ∷ []) 24 0
-          ∷ opens (openAppend 0 0) 24
+          ∷ opens (opensToAdd 0 0) 24
           ∷ []);
       from = 12;
       bytes = 0xC5 ∷ 0x59 ∷ 0x04 ∷ 0x00 ∷ replicate 8 0xFF;
@@ -122,10 +122,10 @@ abbrev pub oneCut : Case
 oneCut =
     record {
       steps = withHeader
-          (opens (openAppend 0 1) 12
+          (opens (opensToAdd 0 1) 12
           ∷ gives (writes four) (4 ∷ []) (extent 20 4 ∷ []) 12 4
           ∷ cut commits [] 12 4
-          ∷ opens (openAppend 0 0) 12
+          ∷ opens (opensToAdd 0 0) 12
           ∷ []);
       from = 12;
       bytes = replicate 12 0xFF;
@@ -136,10 +136,10 @@ abbrev pub zeroCut : Case
 zeroCut =
     record {
       steps = withHeader
-          (opens (openAppend 0 1) 12
+          (opens (opensToAdd 0 1) 12
           ∷ gives (writes (0x00 ∷ [])) (1 ∷ []) [] 12 1
           ∷ cut commits (extent 20 4 ∷ []) 12 1
-          ∷ opens (openAppend 0 1) 4096
+          ∷ opens (opensToAdd 0 1) 4096
           ∷ gives (writes (0x00 ∷ [])) (0 ∷ []) [] 4096 0
           ∷ []);
       from = 12;
@@ -147,8 +147,8 @@ zeroCut =
     }
 
 -- a page opened with h, and further calls
-abbrev pub onEmpty : ℕ → List Step → Case
-onEmpty h steps = record { steps = opens (openPage h 9) (12 + h) ∷ steps; from = 0; bytes = [] }
+abbrev pub onEmpty : ℕ → List StepCase → Case
+onEmpty h steps = record { steps = opens (opensAnew h 9) (12 + h) ∷ steps; from = 0; bytes = [] }
 
 -- with h 0 a write of 4077 takes 4076 and commits
 abbrev pub full : Case

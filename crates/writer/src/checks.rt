@@ -18,7 +18,7 @@ ghost use Rattle.writer.specs.States.{inRange};
 ghost use Rattle.writer.specs.Checks.{stateCheck, lengthCheck, writerCheck, headingCheck};
 
 // Whether the state is in its ranges.
-pub(crate) fn in_range(w: PageWriter) -> bool
+fn in_range(w: PageWriter) -> bool
     ensures answers { λ r. ⌜ r ≡ inRange w ⌝ }
 {
     let Verdict::Fine = check_header(w.h) else {
@@ -40,7 +40,7 @@ pub(crate) fn in_range(w: PageWriter) -> bool
         & (old <= used)
 }
 
-fn check_state(w: PageWriter) -> Verdict
+pub(crate) fn check_state(w: PageWriter) -> Verdict
     ensures answers { λ r. ⌜ r ≡ stateCheck w ⌝ }
 {
     if in_range(w) {

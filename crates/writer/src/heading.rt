@@ -26,7 +26,7 @@ ghost use Rattle.writer.specs.Duties.{headingDuty, handsBack, leaves};
 ghost use Rattle.writer.specs.Headings.{headerRoom, headerOps};
 
 // A page header at the start of an array that has room for the longest one.
-fn page_header(magic: u32, page: PageID, header: &[u8]) -> [u8; PAGE_HEADER_SIZE + MAX_HEADER_SIZE]
+fn header_room(magic: u32, page: PageID, header: &[u8]) -> [u8; PAGE_HEADER_SIZE + MAX_HEADER_SIZE]
     ensures answers { λ r. ⌜ r ≡ headerRoom magic (page .0) (now (header .entry)) ⌝ }
 {
     let m = put32(magic);
@@ -48,7 +48,7 @@ fn head_page(w: PageWriter, flash: &mut [u8], magic: u32, header: &[u8], left: u
     ensures bytes { λ _. ⌜ now (flash .exit) ≡ allowed (pageStart (w .page .0)) left (headerOps eraseValue w magic (now (header .entry))) (now (flash .entry)) ⌝ }
 {
     let page = w.page;
-    let room = page_header(magic, page, header);
+    let room = header_room(magic, page, header);
     let n = PAGE_HEADER_SIZE + header.len();
     let a = erase_if(w.armed, flash, page, ERASE_VALUE, left);
     let b = store_if(true, flash, page, 0, &room[..n], a.left);

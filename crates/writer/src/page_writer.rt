@@ -1,12 +1,12 @@
 // The writer by value: where it writes, and what waits to be stored.
 use crate::answers::Length;
-use crate::checks::in_range;
+use crate::checks::check_state;
 use crc::register::Crc32;
 use types::answers::PageOf;
 use types::config::ALIGN;
 use types::config::PAGE_HEADER_SIZE;
 use types::page_id::PageID;
-use types::refusal::Refusal;
+use types::refusal::Verdict;
 ghost use mathlib.Core.Path.{_≡_};
 ghost use Rattle.writer.specs.Outcomes.{lengthOf, pageId};
 ghost use Rattle.writer.specs.States.{fresh, newWriter};
@@ -55,21 +55,19 @@ impl PageWriter {
     pub fn len(self) -> Length
         ensures answers { λ r. ⌜ r ≡ lengthOf self ⌝ }
     {
-        if in_range(self) {
-            Length::Bytes(self.total)
-        } else {
-            Length::Refused(Refusal::BadState)
+        if let Verdict::Refused(why) = check_state(self) {
+            return Length::Refused(why);
         }
+        Length::Bytes(self.total)
     }
 
     pub fn page_id(self) -> PageOf
         ensures answers { λ r. ⌜ r ≡ pageId self ⌝ }
     {
-        let page = self.page;
-        if in_range(self) {
-            PageOf::Page(page)
-        } else {
-            PageOf::Refused(Refusal::BadState)
+        if let Verdict::Refused(why) = check_state(self) {
+            return PageOf::Refused(why);
         }
+        let page = self.page;
+        PageOf::Page(page)
     }
 }

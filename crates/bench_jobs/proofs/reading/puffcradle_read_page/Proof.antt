@@ -20,8 +20,8 @@ reading-at-requires c κs = search needs
 read-pieces-requires : tie.Need-read-pieces-requires
 read-pieces-requires c κs = search needs
 
-told-requires : tie.Need-told-requires
-told-requires c κs = search needs
+packed-requires : tie.Need-packed-requires
+packed-requires c κs = search needs
 
 same-length : tie.Need-same-length
 same-length c = search needs
@@ -43,7 +43,7 @@ returns c =
     let start = at-reading-at .reading-at in
     let all = at-read-pieces .read-pieces in (
       page-read (now (a .flash)) (a .magic) (a .page) h (now (a .out)) (new .result) (opened .result) (start .result) (new .ensures) (opened .ensures .0) (start .ensures) (all .result) _
-          (all .ensures .0) (c .told .ensures),
+          (all .ensures .0) (c .packed .ensures),
       (
         opened .ensures .1 ∙ ap (λ (r : PageReader). openBytes r (now (a .flash)) (a .magic) (record { 0 = a .page }) (now (a .header))) (new .ensures),
         page-out (now (a .flash)) (a .magic) (a .page) h (now (a .out)) (new .result) (opened .result) (start .result) (new .ensures) (opened .ensures .0) (start .ensures) _ (all .ensures .1),
@@ -58,7 +58,7 @@ puffcradle-read-page-spec =
     open-requires
     reading-at-requires
     read-pieces-requires
-    told-requires
+    packed-requires
     same-length
     same-length-2
     returns)

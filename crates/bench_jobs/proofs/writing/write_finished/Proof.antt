@@ -4,11 +4,11 @@ use borrow.Author.Needs.{needs}
 use Rattle.bench_jobs.proofs.writing.write_finished.Statement.{statement}
 use Rattle.bench_jobs.proofs.writing.write_finished.Tie as tie
 
-told-requires : tie.Need-told-requires
-told-requires c κs = search needs
+packed-requires : tie.Need-packed-requires
+packed-requires c κs = search needs
 
 returns : tie.Need-returns
-returns c = finished-refused (c .before .before .before .before .args .w) (now (c .before .before .before .before .args .flash)) _ (c .before .if1 .taken) (c .told .ensures)
+returns c = finished-refused (c .before .before .before .before .args .w) (now (c .before .before .before .before .args .flash)) _ (c .before .if1 .taken) (c .packed .ensures)
 
 commit-requires : tie.Need-commit-requires
 commit-requires c κs = search needs
@@ -16,8 +16,8 @@ commit-requires c κs = search needs
 number-requires : tie.Need-number-requires
 number-requires c κs = search needs
 
-told-requires-2 : tie.Need-told-requires-2
-told-requires-2 c κs = search needs
+packed-requires-2 : tie.Need-packed-requires-2
+packed-requires-2 c κs = search needs
 
 same-length : tie.Need-same-length
 same-length c = search needs
@@ -28,16 +28,16 @@ returns-2 c =
     let at-if1 = at-commit .before .before .before in
     let start = at-if1 .before .before .before in
     finished-done (start .args .w) (now (start .args .flash)) (at-commit .commit .result) _ _ _ (at-if1 .if1 .left) (at-commit .commit .ensures .0) (at-commit .commit .ensures .1)
-    (c .before .number .ensures) (c .told2 .ensures)
+    (c .before .number .ensures) (c .packed2 .ensures)
 
 pub write-finished-spec : {M : Type 1} → statement M
 write-finished-spec =
     tie.close
     (tie.spec
-    told-requires
+    packed-requires
     returns
     commit-requires
     number-requires
-    told-requires-2
+    packed-requires-2
     same-length
     returns-2)

@@ -1,4 +1,3 @@
--- `replay_alloc::several::pages_in` is safe. Assumes nothing.
 use mathlib.Core.Path.{_≡_, refl, _∙_}
 use Prim.Native.Nat.{_-_}
 use native.Mathlib.Omega.{arith}

@@ -1,4 +1,3 @@
--- `replay_alloc::several::say_pages` is safe. Assumes nothing.
 use native.Mathlib.Omega.{arith}
 use Prim.Native.Nat.{_-_}
 use lib.ListN.{length}

@@ -8,8 +8,8 @@ use borrow.Author.Needs.{needs}
 use Rattle.writer.proofs.heading.head_page.Statement.{statement}
 use Rattle.writer.proofs.heading.head_page.Tie as tie
 
-page-header-requires : tie.Need-page-header-requires
-page-header-requires c κs = search needs
+header-room-requires : tie.Need-header-room-requires
+header-room-requires c κs = search needs
 
 add-n : tie.Need-add-n
 add-n c = search needs
@@ -24,7 +24,7 @@ slice-aggregate-store-if : tie.Need-slice-aggregate-store-if
 slice-aggregate-store-if c =
     let room = c .before .before .before .before .before .before in
     let start = room .before .before .before .before in
-    rw (room .page-header .ensures, length-take, length-room) (omega (arith, start .pre .0))
+    rw (room .header-room .ensures, length-take, length-room) (omega (arith, start .pre .0))
 
 store-if-requires : tie.Need-store-if-requires
 store-if-requires c κs = search needs
@@ -39,15 +39,15 @@ returns c =
     let room = erased .before .before in
     let start = room .before .before .before .before in
     let a = start .args in
-    header-ran eraseValue (a .left) _ (a .magic) (a .w) (a .header .now) (room .page-header .result)
+    header-ran eraseValue (a .left) _ (a .magic) (a .w) (a .header .now) (room .header-room .result)
     (a .flash .now) (erased .erase-if .last .1 .0) (stored .store-if .last .1 .0) (erased .erase-if .result) (stored .store-if .result)
-    (start .pre .1) refl (start .pre .0) (room .page-header .ensures) (erased .erase-if .ensures) (stored .store-if .ensures)
+    (start .pre .1) refl (start .pre .0) (room .header-room .ensures) (erased .erase-if .ensures) (stored .store-if .ensures)
 
 pub head-page-spec : {M : Type 1} → statement M
 head-page-spec =
     tie.close
     (tie.spec
-    page-header-requires
+    header-room-requires
     add-n
     erase-if-requires
     array-share-prefix-room

@@ -2,22 +2,22 @@ use mathlib.Core.Path.{_≡_, sym, _∙_}
 use borrow.Author.Needs.{needs}
 use Rattle.types.specs.declared.page_id.PageID.{PageID}
 use Rattle.alloc.specs.Calls.{isUsed}
-use Rattle.alloc.specs.Checks.{pageCheck}
+use Rattle.alloc.specs.Checks.{ownPageCheck}
 use Rattle.alloc.specs.declared.allocator.Allocator.{Allocator}
 use Rattle.types.specs.declared.refusal.Verdict.the-variants.{Fine}
 use Rattle.alloc.proofs.StateLaws.{page-below}
 use Rattle.alloc.proofs.allocator.Allocator.is_used.Statement.{statement}
 use Rattle.alloc.proofs.allocator.Allocator.is_used.Tie as tie
 
-check-page-requires : tie.Need-check-page-requires
-check-page-requires c κs = search needs
+check-own-page-requires : tie.Need-check-own-page-requires
+check-own-page-requires c κs = search needs
 
 enum-known-why : tie.Need-enum-known-why
 enum-known-why c = search needs
 
 returns : tie.Need-returns
 unfolding isUsed
-returns c = rw (sym (c .before .before .before .check-page .ensures) ∙ c .before .why .given .1)
+returns c = rw (sym (c .before .before .before .check-own-page .ensures) ∙ c .before .why .given .1)
 
 enum-told : tie.Need-enum-told
 enum-told c = search needs
@@ -29,8 +29,8 @@ self c = c .before .before .before .args .t1
 abbrev page : tie.After-enum-told → PageID
 page c = c .before .before .before .args .page
 
-fine : (c : tie.After-enum-told) → pageCheck (self c) (page c) ≡ Fine
-fine c = sym (c .before .before .check-page .ensures) ∙ c .enum-told .given .1
+fine : (c : tie.After-enum-told) → ownPageCheck (self c) (page c) ≡ Fine
+fine c = sym (c .before .before .check-own-page .ensures) ∙ c .enum-told .given .1
 
 index-requires : tie.Need-index-requires
 index-requires c κs = search needs
@@ -54,7 +54,7 @@ pub is-used-spec : {M : Type 1} → statement M
 is-used-spec =
     tie.close
     (tie.spec
-    check-page-requires
+    check-own-page-requires
     enum-known-why
     returns
     enum-told

@@ -3,8 +3,8 @@ use mathlib.Core.Path.{_∙_}
 use Rattle.slices.specs.Patch.{blank}
 use Rattle.writer.proofs.HeadingLaws.{room-laid}
 use borrow.Author.Needs.{needs}
-use Rattle.writer.proofs.heading.page_header.Statement.{statement}
-use Rattle.writer.proofs.heading.page_header.Tie as tie
+use Rattle.writer.proofs.heading.header_room.Statement.{statement}
+use Rattle.writer.proofs.heading.header_room.Tie as tie
 
 put32-requires : tie.Need-put32-requires
 put32-requires c κs = search needs
@@ -71,8 +71,8 @@ returns c =
     (rw (sum-bytes .put323 .ensures, crc .crc32 .ensures, page-bytes .put322 .ensures, magic-bytes .put32 .ensures)
     (room-laid (a .magic) (a .page .0) (a .header .now)))
 
-pub page-header-spec : {M : Type 1} → statement M
-page-header-spec =
+pub header-room-spec : {M : Type 1} → statement M
+header-room-spec =
     tie.close
     (tie.spec
     put32-requires
