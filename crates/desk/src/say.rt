@@ -21,13 +21,15 @@ pub fn number_on(fd: i32, n: usize) {
     io::print_decimal(fd, n as u64);
 }
 
-// What is wrong, and with which argument.
+// What is wrong, and with which argument, where there is one.
 pub fn wrong(program: &[u8], what: &[u8], argument: &[u8]) {
     text(program);
     text(b": ");
     text(what);
-    text(b": ");
-    text(argument);
+    if argument.len() != 0 {
+        text(b": ");
+        text(argument);
+    }
     text(b"\n");
 }
 

@@ -1,6 +1,8 @@
 // What the arguments ask for. Keys and names stay where they are: only their places are kept.
+use crate::help::usage_on;
 use check::same;
 use desk::say::wrong;
+use libc::STDERR_FILENO;
 use run::bound::Bound;
 use slices::part::part_of;
 use types::config::FILE_COUNT;
@@ -141,10 +143,10 @@ impl Choice {
 
     // With argument i, which is no key. A single - is a file's name.
     fn with_word(self, i: usize, word: &[u8]) -> Choice {
-        if word.len() < 2 {
-            return self.with_file(i, word);
+        if word.len() == 0 {
+            return self.stopped(b"an argument is empty", word);
         }
-        if word[0] == b'-' {
+        if (word[0] == b'-') & (1 < word.len()) {
             return self.with_option(i, word);
         }
         self.with_file(i, word)
@@ -175,7 +177,9 @@ impl Choice {
             );
         }
         if (self.files == 0) & self.fine & !self.helps {
-            return self.stopped(b"no run is named", b"offers RUN..");
+            let left = self.stopped(b"no run is named", b"");
+            usage_on(STDERR_FILENO);
+            return left;
         }
         self
     }

@@ -6,10 +6,15 @@ fn line(bytes: &[u8]) {
     io::write_all(STDOUT_FILENO, bytes);
 }
 
-pub(crate) fn say() {
-    line(
+pub(crate) fn usage_on(fd: i32) {
+    io::write_all(
+        fd,
         b"usage: offers [--from KEY] [--after KEY] [--to KEY] [--before KEY] [--count] [--why] [--utf8] RUN..\n",
     );
+}
+
+pub(crate) fn say() {
+    usage_on(STDOUT_FILENO);
     line(
         b"Merges up to 17 files, oldest first, each a run of records, and prints the live entries in key order,\n",
     );

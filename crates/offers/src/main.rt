@@ -24,10 +24,6 @@ fn list(c: Choice) -> bool {
 }
 
 fn main() {
-    if os::arg_count() < 2 {
-        help::say();
-        return;
-    }
     let c = chosen();
     if c.helps {
         help::say();

@@ -1,6 +1,8 @@
 // What the arguments ask for. Words stay where they are: only their places are kept.
+use crate::help::usage_on;
 use check::same;
 use desk::say::wrong;
+use libc::STDERR_FILENO;
 use slices::part::part_of;
 
 // IMAGE, MAGIC, H and PAGE.
@@ -42,11 +44,11 @@ impl Choice {
         self
     }
 
-    fn with_word(mut self, i: usize) -> Choice {
+    fn with_word(mut self, i: usize, word: &[u8]) -> Choice {
         let k = self.count;
         if MOST_WORDS <= k {
-            self.helps = true;
-            return self;
+            self.count = MOST_WORDS + 1;
+            return self.stopped(b"more than IMAGE, MAGIC, H and PAGE", word);
         }
         let mut words = self.words;
         words[k] = i;
@@ -69,13 +71,14 @@ impl Choice {
 
     // With argument i. A single - is a file's name.
     fn with(self, i: usize, word: &[u8]) -> Choice {
-        if word.len() < 2 {
-            return self.with_word(i);
+        if word.len() == 0 {
+            return self.with_word(i, word)
+                .stopped(b"an argument is empty", word);
         }
-        if word[0] == b'-' {
+        if (word[0] == b'-') & (1 < word.len()) {
             return self.with_option(word);
         }
-        self.with_word(i)
+        self.with_word(i, word)
     }
 
     fn with_argument(self, i: usize) -> Choice {
@@ -91,9 +94,11 @@ impl Choice {
     }
 
     // The choice once all arguments were looked at.
-    fn ended(mut self) -> Choice {
-        if (self.count < 3) & self.fine {
-            self.helps = true;
+    fn ended(self) -> Choice {
+        if (self.count < 3) & self.fine & !self.helps {
+            let left = self.stopped(b"IMAGE, MAGIC or H is missing", b"");
+            usage_on(STDERR_FILENO);
+            return left;
         }
         self
     }

@@ -6,8 +6,12 @@ fn line(bytes: &[u8]) {
     io::write_all(STDOUT_FILENO, bytes);
 }
 
+pub(crate) fn usage_on(fd: i32) {
+    io::write_all(fd, b"usage: pages [--chunks] IMAGE MAGIC H [PAGE]\n");
+}
+
 pub(crate) fn say() {
-    line(b"usage: pages [--chunks] IMAGE MAGIC H [PAGE]\n");
+    usage_on(STDOUT_FILENO);
     line(
         b"Says of each page of a flash image what a new reader finds there: the higher header, the chunks and their bytes,\n",
     );
@@ -21,10 +25,13 @@ pub(crate) fn say() {
         b"A1 or 0xA1. H is the length of the higher header, a multiple of 4 up to 64. With PAGE it prints the bytes of that page.\n",
     );
     line(
-        b"What was refused is said on standard error, and the list then ends in a line that starts with \\refused. Where there is\n",
+        b"A refused page has its refusal in its own line. An image or an H that is refused is said on standard error, and the\n",
     );
     line(
-        b"no list, its place has \\failed. A script has to look for these lines: the exit status is 0 either way.\n",
+        b"list is then one line that starts with \\refused. \\failed stands in place of a list that could not be made, and why is\n",
+    );
+    line(
+        b"said on standard error. A script has to look for these lines: the exit status is 0 either way.\n",
     );
     if !io::write_all(
         STDOUT_FILENO,

@@ -1,16 +1,16 @@
 // A line for each page: what a new reader finds there.
 use crate::chunks::say_chunks;
 use crate::header;
+use crate::header::length_on;
 use crate::header::say_higher;
 use crate::line::hex;
 use crate::line::line_end;
 use crate::line::number;
 use crate::line::text;
+use crate::walk::chunks_start;
 use crate::walk::say_walk;
 use crate::walk::walked;
 use desk::say;
-use desk::say::number_on;
-use desk::say::text_on;
 use flash::geometry::page_of;
 use libc::STDERR_FILENO;
 use libc::STDOUT_FILENO;
@@ -18,11 +18,8 @@ use page::header::check_header;
 use page::header::page_header_fine;
 use page::walk::all_erased;
 use slices::field::get32;
-use types::config::ALIGN;
 use types::config::ERASE_VALUE;
-use types::config::MAX_HEADER_SIZE;
 use types::config::MAX_PAGE_COUNT;
-use types::config::PAGE_HEADER_SIZE;
 use types::config::PAGE_SIZE;
 use types::num::min;
 use types::page_id::PageID;
@@ -30,7 +27,7 @@ use types::refusal::Refusal;
 use types::refusal::Verdict;
 
 fn say_good(page: &[u8], h: usize, chunks: bool) -> bool {
-    let start = PAGE_HEADER_SIZE + min(h, MAX_HEADER_SIZE);
+    let start = chunks_start(h);
     say_higher(page, h);
     let said = say_walk(page, walked(page, start));
     if said & chunks {
@@ -132,16 +129,6 @@ fn say_pages(flash: &[u8], magic: u32, h: usize, chunks: bool) -> bool {
         return say_other(magic, m.first);
     }
     say_each(flash, magic, h, chunks, count)
-}
-
-// Says why this H is not allowed.
-fn length_on(fd: i32, h: usize) {
-    text_on(fd, b": H is ");
-    number_on(fd, h);
-    text_on(fd, b", and not a multiple of ");
-    number_on(fd, ALIGN);
-    text_on(fd, b" up to ");
-    number_on(fd, MAX_HEADER_SIZE);
 }
 
 fn bad_header(why: Refusal, h: usize) {

@@ -23,6 +23,7 @@ use flash::geometry::check_flash;
 use libc::STDERR_FILENO;
 use libc::STDOUT_FILENO;
 use magic::magic_in;
+use reading::Asked;
 use script::space::flash_space;
 use slices::part::part_of;
 use types::config::MAX_PAGE_COUNT;
@@ -59,7 +60,8 @@ fn one_page(flash: &[u8], magic: u32, h: usize, i: usize) -> bool {
         return not_so(b"PAGE is not a page number", i);
     };
     if n <= 65535 {
-        reading::hand_out(flash, magic, PageID(n as u16), h);
+        let id = PageID(n as u16);
+        reading::hand_out(flash, Asked { magic, id, h });
         return true;
     }
     not_so(b"PAGE is not a page number", i)

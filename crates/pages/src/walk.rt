@@ -7,6 +7,8 @@ use page::chunk::checked_at;
 use page::walk::all_erased;
 use slices::part::part_of;
 use types::config::ERASE_VALUE;
+use types::config::MAX_HEADER_SIZE;
+use types::config::PAGE_HEADER_SIZE;
 use types::config::PAGE_SIZE;
 use types::num::min;
 
@@ -17,8 +19,13 @@ pub(crate) struct Walk {
     chunks: usize,
     bytes: usize,
     // Where the walk ends, or is refused.
-    at: usize,
+    pub at: usize,
     refused: bool,
+}
+
+// Where the chunks start behind a higher header of h bytes.
+pub(crate) fn chunks_start(h: usize) -> usize {
+    PAGE_HEADER_SIZE + min(h, MAX_HEADER_SIZE)
 }
 
 pub(crate) fn walked(page: &[u8], start: usize) -> Walk {

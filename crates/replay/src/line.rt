@@ -4,7 +4,8 @@ use check::same;
 use script::words::nth_word;
 use slices::part::part_of;
 
-const LONGEST: usize = 20_000;
+// The bytes that a line can have.
+pub(crate) const LONGEST: usize = 20_000;
 
 // The world after a line that is no call, or that passes a limit: no more lines are answered.
 fn stopped(w: World) -> World {

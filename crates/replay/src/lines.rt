@@ -1,7 +1,8 @@
 // The lines of a script, each answered in turn.
+use crate::line::LONGEST;
 use crate::line::answer;
 use crate::world::new_world;
-use libc::STDERR_FILENO;
+use desk::say;
 use libc::STDIN_FILENO;
 use libc::read;
 use script::space::flash_space;
@@ -16,11 +17,30 @@ use types::num::minus;
 const MOST_ENDS: usize = 32;
 
 fn say_stopped(number: usize, line: &[u8]) {
-    io::write_all(STDERR_FILENO, b"replay: line ");
-    io::print_decimal(STDERR_FILENO, number as u64);
-    io::write_all(STDERR_FILENO, b" is no call, or passes a limit: ");
-    io::write_all(STDERR_FILENO, part_of(line, 0, 60));
-    io::write_all(STDERR_FILENO, b"\n");
+    say::text(b"replay: line ");
+    say::number(number);
+    if LONGEST < line.len() {
+        say::text(b" has more than ");
+        say::number(LONGEST);
+        say::text(b" bytes: ");
+    } else {
+        say::text(b" is no call, or passes a limit (docs/ORACLE.md, Scripts): ");
+    }
+    say::text(part_of(line, 0, 60));
+    say::text(b"\n");
+}
+
+// Whether the script goes on behind a line; where not, says why. Reads and writes are the only calls of C here: none failed before the
+// answers, so errno is set where an answer could not be written.
+fn goes_on(fine: bool, number: usize, line: &[u8]) -> bool {
+    if os::errno() != 0 {
+        say::output_failed(b"replay");
+        return false;
+    }
+    if !fine {
+        say_stopped(number, line);
+    }
+    fine
 }
 
 fn answer_lines(script: &[u8], flash: &mut [u8], runs: &mut [u8], ends: &mut [usize]) {
@@ -32,8 +52,7 @@ fn answer_lines(script: &[u8], flash: &mut [u8], runs: &mut [u8], ends: &mut [us
         let line = part_of(script, at, minus(end, at));
         number += 1;
         w = answer(w, line, flash, runs, ends);
-        if !w.fine {
-            say_stopped(number, line);
+        if !goes_on(w.fine, number, line) {
             return;
         }
         at = min(end, script.len()) + 1;
@@ -45,15 +64,12 @@ pub(crate) fn answer_input() {
     let mut more = [0; 1];
     let n = io::read_full(STDIN_FILENO, &mut space);
     if n == space.len() {
-        io::write_all(
-            STDERR_FILENO,
-            b"replay: the script is longer than 1048575 bytes\n",
-        );
+        say::text(b"replay: the script is longer than 1048575 bytes\n");
         return;
     }
     // A script that ends where it could not be read on is no whole script.
     if read(STDIN_FILENO, &mut more) < 0 {
-        io::write_all(STDERR_FILENO, b"replay: standard input cannot be read\n");
+        say::text(b"replay: standard input cannot be read\n");
         return;
     }
     let mut flash = flash_space();

@@ -67,9 +67,8 @@ told-requires-4 c κs = search needs
 same-length : tie.Need-same-length
 same-length c =
     let at-commit = c .before .before .before .before in
-    let at-header = at-commit .before .before .before .before .before .before .before .before in
-    let at-told = at-header .before .before .before .before in
-    let at-write = at-told .before .before .before .before .before in
+    let at-header = at-commit .before .before .before .before .before .before .before in
+    let at-write = at-header .before .before .before .before .before .before .before .before in
     omega (arith, at-commit .flash3 .given, at-header .flash2 .given, at-write .flash .given)
 
 returns : tie.Need-returns

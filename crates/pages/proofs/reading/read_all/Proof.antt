@@ -5,10 +5,10 @@ use Rattle.pages.proofs.reading.read_all.Statement.{statement}
 use Rattle.pages.proofs.reading.read_all.Tie as tie
 
 abbrev Inv-loop : tie.InvT-loop
-Inv-loop flash r₀ counter₀ r counter = counter ≤ 512
+Inv-loop flash asked r₀ counter₀ r counter = counter ≤ 512
 
 abbrev μ-loop : tie.MeasureT-loop
-μ-loop flash r₀ counter₀ r counter = 512 - counter
+μ-loop flash asked r₀ counter₀ r counter = 512 - counter
 
 loop-holds : tie.Need-loop-holds Inv-loop μ-loop
 loop-holds c = omega arith

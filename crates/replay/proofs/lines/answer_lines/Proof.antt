@@ -34,26 +34,26 @@ add-number c = omega arith
 answer-requires : tie.Need-answer-requires Inv-loop μ-loop
 answer-requires c κs = search needs
 
-say-stopped-requires : tie.Need-say-stopped-requires Inv-loop μ-loop
-say-stopped-requires c κs = search needs
+goes-on-requires : tie.Need-goes-on-requires Inv-loop μ-loop
+goes-on-requires c κs = search needs
 
 same-length : tie.Need-same-length Inv-loop μ-loop
 same-length c =
-    let line = c .before .before .before .before .before .before .before .before in
+    let line = c .before .before .before .before .before .before .before in
     let turn = line .before .before .before .before .before .before .before .before in
     omega (arith, (line .flash .given), (turn .before .loop .inv))
 
 same-length-2 : tie.Need-same-length-2 Inv-loop μ-loop
 same-length-2 c =
-    let line = c .before .before .before .before .before .before .before .before in
+    let line = c .before .before .before .before .before .before .before in
     let turn = line .before .before .before .before .before .before .before .before in
-    omega (arith, (c .before .before .before .before .before .before .runs .given), (turn .before .loop .inv))
+    omega (arith, (c .before .before .before .before .before .runs .given), (turn .before .loop .inv))
 
 same-length-3 : tie.Need-same-length-3 Inv-loop μ-loop
 same-length-3 c =
-    let line = c .before .before .before .before .before .before .before .before in
+    let line = c .before .before .before .before .before .before .before in
     let turn = line .before .before .before .before .before .before .before .before in
-    omega (arith, (c .before .before .before .before .ends .given), (turn .before .loop .inv))
+    omega (arith, (c .before .before .before .ends .given), (turn .before .loop .inv))
 
 returns : tie.Need-returns Inv-loop μ-loop
 returns c = omega arith
@@ -116,7 +116,7 @@ answer-lines-spec =
     part-of-requires
     add-number
     answer-requires
-    say-stopped-requires
+    goes-on-requires
     same-length
     same-length-2
     same-length-3
