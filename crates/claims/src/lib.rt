@@ -1,1 +1,3 @@
 // No code: what the definitions come to.
+
+#![tactic(auto)]

@@ -1,4 +1,7 @@
 // CRC-32 as published (IEEE 802.3 3.2.9, ITU-T V.42 8.1.1.6.2), over lent bytes (page.rs, the end).
+
+#![tactic(auto)]
+
 mod bitwise;
 mod braid;
 pub mod nibble;

@@ -1,4 +1,7 @@
 // The merge over all runs: a cursor from a lower bound, and the next entry under an upper bound.
+
+#![tactic(auto)]
+
 pub mod answers;
 pub mod checks;
 pub mod deliver;

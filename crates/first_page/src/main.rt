@@ -1,4 +1,7 @@
 // A first program: it writes a page on a lent flash of one page, and a new reader reads it back.
+
+#![tactic(auto)]
+
 use libc::STDOUT_FILENO;
 use reader::page_reader::PageReader;
 use script::space::page_space;

@@ -1,2 +1,5 @@
 // The order of keys.
+
+#![tactic(auto)]
+
 pub mod order;

@@ -1,4 +1,7 @@
 // A tour of the thin layer, as a caller uses it: an allocator that is lent to each call, and a reader that holds its run.
+
+#![tactic(auto)]
+
 mod pages;
 mod records;
 mod say;

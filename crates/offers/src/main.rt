@@ -1,4 +1,7 @@
 // offers RUN..: the live entries of up to 17 runs, oldest first, merged by the proved cursor, in key order.
+
+#![tactic(auto)]
+
 mod choice;
 mod files;
 mod help;

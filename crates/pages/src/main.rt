@@ -1,4 +1,7 @@
 // pages IMAGE MAGIC H: what a new reader finds on each page of a flash image. pages IMAGE MAGIC H PAGE: the bytes that it hands out.
+
+#![tactic(auto)]
+
 mod choice;
 mod chunks;
 mod header;

@@ -1,4 +1,7 @@
 // How answers are printed: word by word. The first word starts the line, and each other brings the space before it.
+
+#![tactic(auto)]
+
 pub mod word;
 
 use crate::word::Word;

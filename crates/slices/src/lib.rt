@@ -1,3 +1,6 @@
 // Parts of lent bytes, and the numbers in them.
+
+#![tactic(auto)]
+
 pub mod field;
 pub mod part;

@@ -1,4 +1,7 @@
 // The words that every other crate uses: page numbers, refusals, shared answers, and the numbers of the build.
+
+#![tactic(auto)]
+
 pub mod answers;
 pub mod config;
 pub mod num;

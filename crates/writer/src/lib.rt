@@ -1,4 +1,7 @@
 // Adding to a page (page.rs, PageWriter): chunks of bytes, stored in whole groups, each with its header last.
+
+#![tactic(auto)]
+
 pub mod answers;
 mod buffer;
 mod checks;
