@@ -16,7 +16,7 @@ use Rattle.digits.specs.declared.number.Apart.{Apart}
 
 -- a number of the width is read back as it is
 read_back : (n : ℤ) → mag n < 2 ^ 63 → to_z w64 (of_z w64 n) ≡ n
-read_back n h = to_z-of_z (record { sfits = h })
+read_back n h = to_z-of_z {w = w64} {z = n} (record { sfits = h })
 
 -- -1 - n, for n = -(k + 1)
 turned : (k : ℕ) → negsuc 0 -ℤ negsuc k ≡ pos k

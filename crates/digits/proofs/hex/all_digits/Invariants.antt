@@ -1,10 +1,8 @@
 -- `digits::hex::all_digits`: what is left is digits exactly where all are. Assumes nothing.
-use mathlib.Core.Path.{◌≡◌, refl, ◌∙◌}
-use Prim.Native.Nat.{◌-◌, ◌≤◌, ◌<◌}
-use native.Mathlib.Omega.{arith}
-use lib.ListN.{length, drop, get_or}
-use Rattle.digits.specs.Hex.{digit_in, all_digits}
-use Rattle.digits.proofs.HexLaws.{other-found, digit-passed, all-passed}
+use mathlib.Core.Path.{◌≡◌}
+use Prim.Native.Nat.{◌-◌}
+use lib.ListN.{length, drop}
+use Rattle.digits.specs.Hex.{all_digits}
 use Rattle.digits.proofs.hex.all_digits.Given as goal
 
 abbrev pub invariant-loop-i : goal.invariant-loop-i

@@ -1,5 +1,4 @@
 use Rattle.digits.proofs.HexLaws.{digit_low, digit-decimal, digit-between, digit-letter, digit-high}
-use borrow.Author.Rules.{rules}
 use Rattle.digits.proofs.hex.digit_in.Goals as goal
 
 pub returns-then-d-lt48 : goal.returns-then-d-lt48

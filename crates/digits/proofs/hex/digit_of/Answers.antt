@@ -1,6 +1,5 @@
 use Prim.Native.Nat.{◌%◌}
 use borrow.Author.Tests.{lt-ltb, le-ltb}
-use borrow.Author.Rules.{rules}
 use Rattle.digits.proofs.hex.digit_of.Goals as goal
 
 pub returns-then-d-lt10 : goal.returns-then-d-lt10

@@ -1,13 +1,10 @@
 -- `digits::hex::encode`: after i turns the first i bytes are laid out. Assumes nothing.
-use mathlib.Core.Path.{◌≡◌, refl, ◌∙◌}
-use Prim.Native.Nat.{◌-◌, ◌*◌, ◌/◌, ◌≤◌, min}
+use mathlib.Core.Path.{refl, ◌∙◌}
 use native.Mathlib.Omega.{arith}
-use lib.ListN.{length, take, length-set}
-use Rattle.slices.specs.Patch.{over}
+use lib.ListN.{length-set}
 use Rattle.slices.proofs.PatchLaws.{put-start}
 use Rattle.digits.specs.Hex.{hex_of}
 use Rattle.digits.proofs.HexLaws.{encode-turn, encode-end}
-use borrow.Author.Rules.{rules}
 use Rattle.digits.proofs.hex.encode.Goals as goal
 
 pub loop-i-init : goal.loop-i-init
@@ -38,7 +35,7 @@ pub returns : goal.returns
 returns c =
     let a = c.args in
     let n = c.min-n.result in
-  record {
-    answers = rw c.min-n.ensures.answers;
-    bytes = c.loop-i.invariant.1.1.1 ∙ encode-end a.bytes.now a.out.now c.loop-i.i (omega arith);
-  }
+    record {
+      answers = rw c.min-n.ensures.answers;
+      bytes = c.loop-i.invariant.1.1.1 ∙ encode-end a.bytes.now a.out.now c.loop-i.i (omega arith);
+    }

@@ -1,12 +1,9 @@
 -- `digits::hex::encode`: after i turns the first i bytes are laid out. Assumes nothing.
-use mathlib.Core.Path.{◌≡◌, refl, ◌∙◌}
+use mathlib.Core.Path.{◌≡◌}
 use Prim.Native.Nat.{◌-◌, ◌*◌, ◌/◌, ◌≤◌, min}
-use native.Mathlib.Omega.{arith}
-use lib.ListN.{length, take, length-set}
+use lib.ListN.{length, take}
 use Rattle.slices.specs.Patch.{over}
-use Rattle.slices.proofs.PatchLaws.{put-start}
 use Rattle.digits.specs.Hex.{hex_of}
-use Rattle.digits.proofs.HexLaws.{encode-turn, encode-end}
 use Rattle.digits.proofs.hex.encode.Given as goal
 
 abbrev pub invariant-loop-i : goal.invariant-loop-i

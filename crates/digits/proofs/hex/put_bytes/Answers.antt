@@ -1,14 +1,12 @@
 -- `digits::hex::put_bytes`: after i turns the first i bytes are put. Assumes nothing.
 use mathlib.Core.Path.{◌≡◌, refl, ap, ◌∙◌}
 use mathlib.Core.List.{List}
-use Prim.Native.Nat.{ℕ, ◌-◌, ◌/◌, ◌≤◌}
+use Prim.Native.Nat.{ℕ, ◌/◌}
 use native.Mathlib.Omega.{arith}
-use lib.ListN.{length, take, get_or, set, length-set}
-use Rattle.slices.specs.Patch.{over}
+use lib.ListN.{length, get_or, set, length-set}
 use Rattle.slices.proofs.PatchLaws.{put-start, put-turn, put-end}
 use Rattle.digits.specs.Hex.{bytes_in}
 use Rattle.digits.proofs.HexLaws.{length-bytes_in, bytes_in-at}
-use borrow.Author.Rules.{rules}
 use Rattle.digits.proofs.hex.put_bytes.Goals as goal
 
 pub loop-i-init : goal.loop-i-init
@@ -35,9 +33,9 @@ shape_of-out c = c.loop-i.invariant.1.1.0
 
 pub returns : goal.returns
 returns c =
-  record {
-    bytes =
-      let a = c.args in
-      let n : length (bytes_in a.word.now) ≡ length a.word.now / 2 = length-bytes_in a.word.now in
-      c.loop-i.invariant.1.1.1 ∙ put-end (bytes_in a.word.now) a.out.now c.loop-i.i (omega arith);
-  }
+    record {
+      bytes =
+          let a = c.args in
+          let n : length (bytes_in a.word.now) ≡ length a.word.now / 2 = length-bytes_in a.word.now in
+          c.loop-i.invariant.1.1.1 ∙ put-end (bytes_in a.word.now) a.out.now c.loop-i.i (omega arith);
+    }

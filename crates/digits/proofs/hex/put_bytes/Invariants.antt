@@ -1,13 +1,9 @@
 -- `digits::hex::put_bytes`: after i turns the first i bytes are put. Assumes nothing.
-use mathlib.Core.Path.{◌≡◌, refl, ap, ◌∙◌}
-use mathlib.Core.List.{List}
-use Prim.Native.Nat.{ℕ, ◌-◌, ◌/◌, ◌≤◌}
-use native.Mathlib.Omega.{arith}
-use lib.ListN.{length, take, get_or, set, length-set}
+use mathlib.Core.Path.{◌≡◌}
+use Prim.Native.Nat.{◌-◌, ◌/◌, ◌≤◌}
+use lib.ListN.{length, take}
 use Rattle.slices.specs.Patch.{over}
-use Rattle.slices.proofs.PatchLaws.{put-start, put-turn, put-end}
 use Rattle.digits.specs.Hex.{bytes_in}
-use Rattle.digits.proofs.HexLaws.{length-bytes_in, bytes_in-at}
 use Rattle.digits.proofs.hex.put_bytes.Given as goal
 
 abbrev pub invariant-loop-i : goal.invariant-loop-i

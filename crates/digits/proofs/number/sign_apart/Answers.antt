@@ -1,5 +1,4 @@
 use Rattle.digits.proofs.SignLaws.{below-turns, below-casts, below-adds, below_apart, above-casts, above_apart}
-use borrow.Author.Rules.{rules}
 use Rattle.digits.proofs.number.sign_apart.Goals as goal
 
 pub overflow_sub-result : goal.overflow_sub-result
