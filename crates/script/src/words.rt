@@ -7,6 +7,11 @@ use types::num::{min, minus};
 
 const SPACE: u8 = b' ';
 
+// Whether two words are the same bytes.
+pub fn same(a: &[u8], b: &[u8]) -> bool {
+    a == b
+}
+
 // The index of the first such byte at or after an index. Where there is none: the text's end, or the index if that is past it.
 pub fn end_from(text: &[u8], from: usize, byte: u8) -> usize
     ensures answers { result ≡ end_from text.now from byte }
