@@ -3,7 +3,7 @@ use crate::say::{text, wrong};
 use libc::{STDIN_FILENO, read};
 use slices::part::part_of;
 
-#[derive(Drop)]
+#[derive(Clone, Copy)]
 pub enum Filled {
     To(usize),
     // The file has more bytes than there is room for. The caller says how many it takes.

@@ -7,7 +7,7 @@ use run::bound::Bound;
 use slices::part::part_of;
 use types::config::FILE_COUNT;
 
-#[derive(Drop)]
+#[derive(Clone, Copy)]
 pub(crate) struct Choice {
     // Whether all arguments so far can be taken.
     pub fine: bool,

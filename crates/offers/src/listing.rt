@@ -76,14 +76,14 @@ fn print(c: Choice, key: &[u8], value: &[u8], decided: usize) -> bool {
     io::write_all(STDOUT_FILENO, b"\n")
 }
 
-#[derive(Drop)]
+#[derive(Clone, Copy)]
 enum Way {
     On,
     Stop,
     End,
 }
 
-#[derive(Drop)]
+#[derive(Clone, Copy)]
 struct Turn {
     way: Way,
     cursor: Cursor,

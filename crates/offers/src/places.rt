@@ -9,7 +9,7 @@ use types::config::FILE_COUNT;
 use types::num::{min, minus};
 
 // A run and a position in it. Past the last run it is no place.
-#[derive(Drop)]
+#[derive(Clone, Copy)]
 pub(crate) struct Spot {
     pub run: usize,
     pub at: usize,

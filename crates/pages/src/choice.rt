@@ -8,7 +8,7 @@ use slices::part::part_of;
 // IMAGE, MAGIC, H and PAGE.
 const MOST_WORDS: usize = 4;
 
-#[derive(Drop)]
+#[derive(Clone, Copy)]
 pub(crate) struct Choice {
     // Whether all arguments so far can be taken.
     pub fine: bool,

@@ -7,7 +7,7 @@ use page::chunk::{Step, chunk_at, payload_at};
 use slices::field::get16;
 use slices::part::part_of;
 
-#[derive(Drop)]
+#[derive(Clone, Copy)]
 struct Next {
     goes_on: bool,
     // Whether the line could be written.

@@ -47,7 +47,7 @@ fn say_page_at(flash: &[u8], magic: u32, i: usize, h: usize, chunks: bool) -> bo
 }
 
 // The magics on the pages so far.
-#[derive(Drop)]
+#[derive(Clone, Copy)]
 struct Magics {
     // Whether any page so far is not erased, and the magic of the first that is not.
     any: bool,

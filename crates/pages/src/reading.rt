@@ -20,14 +20,14 @@ use types::refusal::Refusal;
 const CALLS: usize = 512;
 
 // The page that is asked for, and what its header has to be.
-#[derive(Drop)]
+#[derive(Clone, Copy)]
 pub(crate) struct Asked {
     pub magic: u32,
     pub id: PageID,
     pub h: usize,
 }
 
-#[derive(Drop)]
+#[derive(Clone, Copy)]
 struct Step {
     goes_on: bool,
     reader: PageReader,
