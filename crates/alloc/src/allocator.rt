@@ -13,7 +13,7 @@ use types::refusal::{Refusal, Verdict};
 // Eight pages to a byte.
 pub const MARK_BYTES: usize = (MAX_PAGE_COUNT + 7) / 8;
 
-#[derive(Drop)]
+#[derive(Clone, Copy)]
 pub struct Allocator {
     pub page_count: usize,
     // A bit for each page, 1 where it is used.

@@ -10,7 +10,7 @@ use types::page_id::PageID;
 use types::refusal::Refusal;
 
 // The answer of try_allocate: a page, or none where no page is free.
-#[derive(Drop)]
+#[derive(Clone, Copy)]
 pub enum Allocated {
     Page(PageID),
     None,
@@ -40,28 +40,28 @@ impl Allocated {
     }
 }
 
-#[derive(Drop)]
+#[derive(Clone, Copy)]
 pub struct Allocation {
     pub answer: Allocated,
     pub allocator: Allocator,
 }
 
 // The answer of try_allocate_each: how many pages.
-#[derive(Drop)]
+#[derive(Clone, Copy)]
 pub struct Allocations {
     pub answer: Count,
     pub allocator: Allocator,
 }
 
 // The answer of reset, mark_used, free and free_each.
-#[derive(Drop)]
+#[derive(Clone, Copy)]
 pub struct Change {
     pub answer: Outcome,
     pub allocator: Allocator,
 }
 
 // The answer of is_used.
-#[derive(Drop)]
+#[derive(Clone, Copy)]
 pub enum Usage {
     Used,
     Free,
@@ -92,7 +92,7 @@ impl Usage {
 }
 
 // The answer of used_pages, free_pages and page_count, and of try_allocate_each.
-#[derive(Drop)]
+#[derive(Clone, Copy)]
 pub enum Count {
     Pages(usize),
     Refused(Refusal),
@@ -120,7 +120,7 @@ impl Count {
 }
 
 // The answer of margin: how many pages would stay free, below zero where they are too few.
-#[derive(Drop)]
+#[derive(Clone, Copy)]
 pub enum Margin {
     Pages(isize),
     Refused(Refusal),

@@ -10,7 +10,7 @@ use types::config::MAX_PAGE_COUNT;
 use types::page_id::PageID;
 
 // An allocator, and the sum of what it answered so far.
-#[derive(Drop)]
+#[derive(Clone, Copy)]
 pub struct Tally {
     pub allocator: Allocator,
     pub sum: u64,

@@ -9,7 +9,7 @@ use run::bound::Bound;
 use slices::field::get32;
 
 // A cursor on its way, the sum of what it handed out, and whether it goes on.
-#[derive(Drop)]
+#[derive(Clone, Copy)]
 pub struct Merging {
     pub cursor: Cursor,
     pub sum: u64,

@@ -13,7 +13,7 @@ use types::num::min;
 use types::page_id::PageID;
 
 // A reader on its way: how many bytes it put, whether it goes on, and the number of the row that refused.
-#[derive(Drop)]
+#[derive(Clone, Copy)]
 pub struct Reading {
     pub reader: PageReader,
     pub put: usize,

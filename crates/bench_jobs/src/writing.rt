@@ -12,7 +12,7 @@ use writer::answers::{Ended, Taking, Wrote};
 use writer::page_writer::PageWriter;
 
 // A writer on its way: the stores left, how many bytes it took, whether it goes on, and the number of the row that refused.
-#[derive(Drop)]
+#[derive(Clone, Copy)]
 pub struct Writing {
     pub writer: PageWriter,
     pub left: usize,

@@ -4,7 +4,7 @@ ghost use Rattle.crc.specs.Register.{preset, updated, finished};
 
 use crate::braid;
 
-#[derive(Drop)]
+#[derive(Clone, Copy)]
 pub struct Crc32(pub u32);
 
 impl Crc32 {

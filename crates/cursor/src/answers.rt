@@ -8,13 +8,13 @@ use crate::place::Cursor;
 use types::answers::Outcome;
 use types::refusal::Refusal;
 
-#[derive(Drop)]
+#[derive(Clone, Copy)]
 pub struct NewCursor {
     pub cursor: Cursor,
     pub answer: Outcome,
 }
 
-#[derive(Drop)]
+#[derive(Clone, Copy)]
 pub enum NextAnswer {
     End,
     // The lengths of the key and the value that stand at the start of their buffers.
@@ -22,7 +22,7 @@ pub enum NextAnswer {
     Refused(Refusal),
 }
 
-#[derive(Drop)]
+#[derive(Clone, Copy)]
 pub struct Moved {
     pub cursor: Cursor,
     pub answer: NextAnswer,

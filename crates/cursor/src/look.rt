@@ -9,14 +9,14 @@ use run::record::{Head, Record, head_at};
 use types::refusal::Refusal;
 
 // The record with the lowest key so far, in the highest run that holds it.
-#[derive(Drop)]
+#[derive(Clone, Copy)]
 pub enum Lowest {
     None,
     Found(usize, Record),
     Refused(Refusal),
 }
 
-#[derive(Drop)]
+#[derive(Clone, Copy)]
 pub enum Look {
     // No record, or one past the upper bound.
     Gone,

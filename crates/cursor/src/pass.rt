@@ -13,7 +13,7 @@ use slices::part::part_to;
 use types::config::FILE_COUNT;
 
 // The places with the runs found gone, the same with the holders of the lowest key stepped on, and that key.
-#[derive(Drop)]
+#[derive(Clone, Copy)]
 pub struct Pass {
     pub places: [RunPlace; FILE_COUNT],
     pub stepped: [RunPlace; FILE_COUNT],

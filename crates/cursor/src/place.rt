@@ -3,19 +3,19 @@ use types::config::FILE_COUNT;
 
 // A run's place: gone, or a position that counts from the run's start.
 // Gone is the first variant: the logic reads it past an array's end.
-#[derive(Drop)]
+#[derive(Clone, Copy)]
 pub enum Place {
     Gone,
     At(usize),
 }
 
-#[derive(Drop)]
+#[derive(Clone, Copy)]
 pub struct RunPlace {
     pub place: Place,
 }
 
 // A place for each run, in list order. A later run is higher and newer.
-#[derive(Drop)]
+#[derive(Clone, Copy)]
 pub struct Cursor {
     pub places: [RunPlace; FILE_COUNT],
 }

@@ -7,7 +7,7 @@ use std::fs::File;
 use std::io;
 use std::io::Read;
 
-#[derive(Drop)]
+#[derive(Clone, Copy)]
 pub enum Filled {
     To(usize),
     // The file has more bytes than there is room for. The caller says how many it takes.

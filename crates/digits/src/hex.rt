@@ -6,7 +6,7 @@ ghost use Rattle.digits.specs.Hex.{digit_in, digit_of, all_digits, byte_in, byte
 use types::num::min;
 
 // What a word in hex comes to.
-#[derive(Drop)]
+#[derive(Clone, Copy)]
 pub enum Decoded {
     // How many bytes were put at the buffer's start.
     Bytes(usize),

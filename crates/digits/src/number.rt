@@ -9,7 +9,7 @@ const MOST_64: usize = 0xFFFF_FFFF_FFFF_FFFF;
 const MOST_32: usize = 0xFFFF_FFFF;
 
 // What a word in decimal comes to.
-#[derive(Drop)]
+#[derive(Clone, Copy)]
 pub enum Number {
     Value(usize),
     // It is empty, has another byte than digits, or passes 64 bits.
@@ -17,7 +17,7 @@ pub enum Number {
 }
 
 // What a word of eight hex digits comes to.
-#[derive(Drop)]
+#[derive(Clone, Copy)]
 pub enum Word32 {
     Word(u32),
     NoWord,
@@ -81,7 +81,7 @@ pub fn word32_in(word: &[u8]) -> Word32
 }
 
 // A number with its sign apart.
-#[derive(Drop)]
+#[derive(Clone, Copy)]
 pub struct Apart {
     pub below: bool,
     // How far it is from zero.

@@ -15,7 +15,7 @@ use types::num::{min, minus};
 use types::page_id::PageID;
 
 // Whether what was due was made, and how many operations are left.
-#[derive(Drop)]
+#[derive(Clone, Copy)]
 pub struct Spent {
     pub ok: bool,
     pub left: usize,

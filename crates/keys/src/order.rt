@@ -5,7 +5,7 @@ ghost use Rattle.keys.specs.Keys.{Alike, compare_keys};
 
 use slices::field::join32;
 
-#[derive(Drop)]
+#[derive(Clone, Copy)]
 pub enum Ordering {
     Less,
     Equal,

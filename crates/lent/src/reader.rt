@@ -7,7 +7,7 @@ ghost use Rattle.lent.specs.Steps.{step_at};
 use crate::step::{Step, step_at};
 use run::record::{Head, Record};
 
-#[derive(Drop)]
+#[derive(Clone, Copy)]
 pub struct RunReader<'a> {
     pub run: &'a [u8],
     // Counted from the run's start.

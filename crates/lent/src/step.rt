@@ -6,7 +6,7 @@ use run::record::{Head, head_at};
 use types::refusal::Refusal;
 
 // What stands at a position, and the position afterwards.
-#[derive(Drop)]
+#[derive(Clone, Copy)]
 pub struct Step {
     pub head: Head,
     pub at: usize,

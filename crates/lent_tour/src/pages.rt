@@ -4,7 +4,7 @@ use alloc::allocator::Allocator;
 use alloc::answers::{Allocated, Count};
 use lent::allocator;
 
-#[derive(Drop)]
+#[derive(Clone, Copy)]
 struct HandedOut {
     first: Allocated,
     second: Allocated,

@@ -7,14 +7,14 @@ use slices::part::part_of;
 use std::env::Env;
 use types::num::{min, minus};
 
-#[derive(Drop)]
+#[derive(Clone, Copy)]
 pub(crate) enum Key {
     Bytes(usize),
     Bad,
 }
 
 // One byte, and how many bytes of the argument tell it.
-#[derive(Drop)]
+#[derive(Clone, Copy)]
 enum Spelled {
     Byte { byte: u8, used: usize },
     Bad,

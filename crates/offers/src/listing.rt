@@ -90,14 +90,14 @@ fn print(
     rt.write_all(b"\n")
 }
 
-#[derive(Drop)]
+#[derive(Clone, Copy)]
 enum Way {
     On,
     Stop,
     End,
 }
 
-#[derive(Drop)]
+#[derive(Clone, Copy)]
 struct Turn {
     way: Way,
     cursor: Cursor,

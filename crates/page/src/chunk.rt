@@ -13,7 +13,7 @@ use types::refusal::Refusal;
 pub const CHUNK_MAGIC: u16 = 0x59C5;
 
 // What stands at an offset of a page.
-#[derive(Drop)]
+#[derive(Clone, Copy)]
 pub enum Step {
     // No chunk: the page's chunks end here.
     End,

@@ -8,7 +8,7 @@ use crate::chunk::{Step, chunk_at};
 use types::refusal::Refusal;
 
 // Where a page's chunks end.
-#[derive(Drop)]
+#[derive(Clone, Copy)]
 pub enum Ending {
     EndAt(usize),
     Corrupted,

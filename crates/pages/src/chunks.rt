@@ -8,7 +8,7 @@ use slices::field::get16;
 use slices::part::part_of;
 use std::io;
 
-#[derive(Drop)]
+#[derive(Clone, Copy)]
 struct Next {
     goes_on: bool,
     // Whether the line could be written.

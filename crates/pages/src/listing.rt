@@ -61,7 +61,7 @@ fn say_page_at(
 }
 
 // The magics on the pages so far.
-#[derive(Drop)]
+#[derive(Clone, Copy)]
 struct Magics {
     // Whether any page so far is not erased, and the magic of the first that is not.
     any: bool,

@@ -26,7 +26,7 @@ pub(crate) struct Asked {
     pub h: usize,
 }
 
-#[derive(Drop)]
+#[derive(Clone, Copy)]
 struct Step {
     goes_on: bool,
     reader: PageReader,

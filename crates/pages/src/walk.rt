@@ -10,7 +10,7 @@ use types::num::min;
 // More steps than a page has chunks.
 pub(crate) const STEPS: usize = 512;
 
-#[derive(Drop)]
+#[derive(Clone, Copy)]
 pub(crate) struct Walk {
     chunks: usize,
     bytes: usize,

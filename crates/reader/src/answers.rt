@@ -10,14 +10,14 @@ use types::answers::Outcome;
 use types::refusal::Refusal;
 
 // The answer of open and rehydrate_from.
-#[derive(Drop)]
+#[derive(Clone, Copy)]
 pub struct Opening {
     pub answer: Outcome,
     pub reader: PageReader,
 }
 
 // The answer of read and skip: how many bytes were read or passed.
-#[derive(Drop)]
+#[derive(Clone, Copy)]
 pub enum Count {
     Bytes(usize),
     Refused(Refusal),
@@ -44,14 +44,14 @@ impl Count {
     }
 }
 
-#[derive(Drop)]
+#[derive(Clone, Copy)]
 pub struct Passage {
     pub answer: Count,
     pub reader: PageReader,
 }
 
 // The answer of is_at_eof.
-#[derive(Drop)]
+#[derive(Clone, Copy)]
 pub enum EndTest {
     AtEnd,
     More,
@@ -81,14 +81,14 @@ impl EndTest {
     }
 }
 
-#[derive(Drop)]
+#[derive(Clone, Copy)]
 pub struct EndTested {
     pub answer: EndTest,
     pub reader: PageReader,
 }
 
 // The answer of dehydrate.
-#[derive(Drop)]
+#[derive(Clone, Copy)]
 pub enum Dehydration {
     State(DehydratedPageReader),
     Refused(Refusal),

@@ -6,7 +6,7 @@ ghost use Rattle.reader.specs.States.{stored, restored};
 use crate::page_reader::PageReader;
 use types::page_id::PageID;
 
-#[derive(Drop)]
+#[derive(Clone, Copy)]
 pub struct DehydratedPageReader {
     pub page: PageID,
     pub ended: bool,

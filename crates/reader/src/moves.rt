@@ -9,14 +9,14 @@ use page::chunk::{Step, align_up, checked_at, payload_at};
 use slices::part::part_of;
 use types::config::CHUNK_HEADER_SIZE;
 
-#[derive(Drop)]
+#[derive(Clone, Copy)]
 pub(crate) enum Arrived {
     At(PageReader),
     Corrupted,
 }
 
 // The reader after a skip, and how many of the bytes were missing.
-#[derive(Drop)]
+#[derive(Clone, Copy)]
 pub(crate) enum Passed {
     To { reader: PageReader, left: usize },
     Corrupted,

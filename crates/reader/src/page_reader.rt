@@ -20,7 +20,7 @@ use types::num::min;
 use types::page_id::PageID;
 use types::refusal::{Refusal, Verdict};
 
-#[derive(Drop)]
+#[derive(Clone, Copy)]
 pub struct PageReader {
     pub page: PageID,
     pub ended: bool,

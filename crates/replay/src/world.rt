@@ -11,7 +11,7 @@ use writer::page_writer::PageWriter;
 
 const STORES_AT_FIRST: usize = 1000;
 
-#[derive(Drop)]
+#[derive(Clone, Copy)]
 pub(crate) struct World {
     // Whether every line so far was a call.
     pub fine: bool,

@@ -14,7 +14,7 @@ use types::config::MAX_PAGE_COUNT;
 use types::num::min;
 
 // What a line comes to.
-#[derive(Drop)]
+#[derive(Clone, Copy)]
 pub struct Reply {
     // Whether it is a call.
     pub fine: bool,

@@ -19,27 +19,27 @@ use types::num::min;
 // The longest buffer that a script can ask for.
 const MOST_ROOM: usize = 8192;
 
-#[derive(Drop)]
+#[derive(Clone, Copy)]
 enum Kind {
     Is(Bound),
     NoKind,
 }
 
 // A bound's kind and the length of its key.
-#[derive(Drop)]
+#[derive(Clone, Copy)]
 enum BoundRead {
     Is(Bound, usize),
     NoBound,
 }
 
-#[derive(Drop)]
+#[derive(Clone, Copy)]
 enum PlaceRead {
     Is(Place),
     NoPlace,
 }
 
 // What a call of next asks for.
-#[derive(Drop)]
+#[derive(Clone, Copy)]
 struct Ask {
     bound: Bound,
     upper_len: usize,
@@ -47,13 +47,13 @@ struct Ask {
     value_room: usize,
 }
 
-#[derive(Drop)]
+#[derive(Clone, Copy)]
 enum AskRead {
     Is(Ask),
     NoAsk,
 }
 
-#[derive(Drop)]
+#[derive(Clone, Copy)]
 struct PlacesRead {
     fine: bool,
     places: [RunPlace; FILE_COUNT],

@@ -1,7 +1,7 @@
 // The states that a script's calls on the runs and the cursor work on.
 use cursor::place::Cursor;
 
-#[derive(Drop)]
+#[derive(Clone, Copy)]
 pub struct State {
     pub cursor: Cursor,
     // How many bytes the runs have, and how many ends there are.
@@ -10,7 +10,7 @@ pub struct State {
 }
 
 // What a line comes to.
-#[derive(Drop)]
+#[derive(Clone, Copy)]
 pub struct Reply {
     // Whether it is a call.
     pub fine: bool,

@@ -13,7 +13,7 @@ use types::config::{ERASE_VALUE, PAGE_SIZE};
 use types::num::{min, minus};
 
 // What a line comes to.
-#[derive(Drop)]
+#[derive(Clone, Copy)]
 pub struct Reply {
     // Whether it is a call.
     pub fine: bool,

@@ -26,14 +26,14 @@ const MOST_ROOM: usize = 8192;
 const HEADER_ROOM: usize = MAX_HEADER_SIZE + 4;
 
 // What a page is opened by.
-#[derive(Drop)]
+#[derive(Clone, Copy)]
 struct Named {
     magic: u32,
     page: PageID,
     h: usize,
 }
 
-#[derive(Drop)]
+#[derive(Clone, Copy)]
 enum Name {
     Is(Named),
     NoName,

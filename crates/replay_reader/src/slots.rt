@@ -12,7 +12,7 @@ use script::args::{Flag, Page, flag_at, number_at, number_to, page_at, word32_at
 use script::words::{nth_word, word_count};
 use types::answers::Outcome;
 
-#[derive(Drop)]
+#[derive(Clone, Copy)]
 pub(crate) enum Fields {
     Are(DehydratedPageReader),
     NoFields,

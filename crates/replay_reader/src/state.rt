@@ -6,14 +6,14 @@ use types::num::min;
 // Places for readers that are kept.
 pub const SLOTS: usize = 4;
 
-#[derive(Drop)]
+#[derive(Clone, Copy)]
 pub struct State {
     pub reader: PageReader,
     pub kept: [DehydratedPageReader; SLOTS],
 }
 
 // What a line comes to.
-#[derive(Drop)]
+#[derive(Clone, Copy)]
 pub struct Reply {
     // Whether it is a call.
     pub fine: bool,

@@ -1,7 +1,7 @@
 // The words of an answer, but for bytes.
 use types::refusal::Refusal;
 
-#[derive(Drop)]
+#[derive(Clone, Copy)]
 pub enum Word {
     // The first four start a line.
     Ok,

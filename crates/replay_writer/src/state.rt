@@ -1,7 +1,7 @@
 // The states that a script's calls on the writer work on.
 use writer::page_writer::PageWriter;
 
-#[derive(Drop)]
+#[derive(Clone, Copy)]
 pub struct State {
     pub writer: PageWriter,
     // Stores left.
@@ -9,7 +9,7 @@ pub struct State {
 }
 
 // What a line comes to.
-#[derive(Drop)]
+#[derive(Clone, Copy)]
 pub struct Reply {
     // Whether it is a call.
     pub fine: bool,

@@ -12,7 +12,7 @@ use types::page_id::PageID;
 use writer::page_writer::PageWriter;
 
 // A call that stores. The bytes of write and write_header stand beside it.
-#[derive(Drop)]
+#[derive(Clone, Copy)]
 pub(crate) enum Call {
     Write,
     Commit,
@@ -21,7 +21,7 @@ pub(crate) enum Call {
 }
 
 // The bytes of a page from an offset up to another, and none where they cross.
-#[derive(Drop)]
+#[derive(Clone, Copy)]
 struct Span {
     from: usize,
     end: usize,

@@ -4,7 +4,7 @@ ghost use Rattle.run.specs.Bounds.{is_past};
 
 use keys::order::{Ordering, compare};
 
-#[derive(Drop)]
+#[derive(Clone, Copy)]
 pub enum Bound {
     Unbounded,
     Included,

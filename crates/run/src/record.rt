@@ -12,7 +12,7 @@ use types::refusal::Refusal;
 pub const RECORD_HEADER_SIZE: usize = 6;
 
 // Where a record's parts lie in its run: the key from `key` up to `value`, the value from there up to `next`.
-#[derive(Drop)]
+#[derive(Clone, Copy)]
 pub struct Record {
     pub deleted: bool,
     pub key: usize,
@@ -20,7 +20,7 @@ pub struct Record {
     pub next: usize,
 }
 
-#[derive(Drop)]
+#[derive(Clone, Copy)]
 pub enum Head {
     Nothing,
     Record(Record),
@@ -72,7 +72,7 @@ impl Record {
 }
 
 // What the kind byte says of its record.
-#[derive(Drop)]
+#[derive(Clone, Copy)]
 pub(crate) enum KindVerdict {
     Live,
     Deleted,

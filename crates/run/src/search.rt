@@ -10,7 +10,7 @@ use keys::order::{Ordering, compare};
 use types::refusal::Refusal;
 
 // Where a run starts under a lower bound.
-#[derive(Drop)]
+#[derive(Clone, Copy)]
 pub enum Sought {
     Gone,
     At(usize),

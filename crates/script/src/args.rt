@@ -9,19 +9,19 @@ use digits::hex::{Decoded, decode};
 use digits::number::{Number, Word32, decimal_in, word32_in};
 use types::page_id::PageID;
 
-#[derive(Drop)]
+#[derive(Clone, Copy)]
 pub enum Page {
     Number(PageID),
     NoPage,
 }
 
-#[derive(Drop)]
+#[derive(Clone, Copy)]
 pub enum Seed {
     Number(u32),
     NoSeed,
 }
 
-#[derive(Drop)]
+#[derive(Clone, Copy)]
 pub enum Flag {
     Is(bool),
     NoFlag,

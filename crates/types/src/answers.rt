@@ -7,7 +7,7 @@ use crate::page_id::PageID;
 use crate::refusal::Refusal;
 
 // The answer of a call that has nothing to tell.
-#[derive(Drop)]
+#[derive(Clone, Copy)]
 pub enum Outcome {
     Done,
     Refused(Refusal),
@@ -25,7 +25,7 @@ impl Outcome {
 }
 
 // The answer of a call that asks for a page: its number.
-#[derive(Drop)]
+#[derive(Clone, Copy)]
 pub enum PageOf {
     Page(PageID),
     Refused(Refusal),

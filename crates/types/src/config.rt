@@ -39,7 +39,7 @@ pub const CHUNK_HEADER_SIZE: usize = 8;
 pub const MAX_CHUNK_SIZE: usize = PAGE_SIZE - PAGE_HEADER_SIZE - CHUNK_HEADER_SIZE;
 
 // All numbers of the build at once, for whoever shows or compares them.
-#[derive(Drop)]
+#[derive(Clone, Copy)]
 pub struct Build {
     pub page_size: usize,
     pub align: usize,

@@ -6,15 +6,15 @@ ghost use Rattle.types.specs.PageIDs.{no_page, page_of_raw, raw_of, is_none};
 const NO_PAGE: u16 = 0xFFFF;
 
 // A page number, which is no offset and no run number.
-#[derive(Drop)]
+#[derive(Clone, Copy)]
 pub struct PageID(pub u16);
 
 // A page number or none, in 16 bits, as it is written to flash.
-#[derive(Drop)]
+#[derive(Clone, Copy)]
 pub struct OptionPageID(pub u16);
 
 // The same with its two cases apart: the original's Option<PageID>.
-#[derive(Drop)]
+#[derive(Clone, Copy)]
 pub enum MaybePageID {
     None,
     Some(PageID),

@@ -3,7 +3,7 @@ ghost use Rattle.std.specs.Prelude.{◌≡◌};
 ghost use Rattle.types.specs.Answers.{verdict_told};
 ghost use Rattle.types.specs.Refusals.{number_of};
 
-#[derive(Drop)]
+#[derive(Clone, Copy)]
 pub enum Refusal {
     // A check of lent bytes failed.
     Corrupted,
@@ -30,7 +30,7 @@ pub enum Refusal {
 }
 
 // What the checks before the work come to.
-#[derive(Drop)]
+#[derive(Clone, Copy)]
 pub enum Verdict {
     Fine,
     Refused(Refusal),

@@ -9,7 +9,7 @@ use types::answers::Outcome;
 use types::refusal::Refusal;
 
 // The answer of write: how many bytes it took.
-#[derive(Drop)]
+#[derive(Clone, Copy)]
 pub enum Taking {
     Took(usize),
     Refused(Refusal),
@@ -36,7 +36,7 @@ impl Taking {
     }
 }
 
-#[derive(Drop)]
+#[derive(Clone, Copy)]
 pub struct Wrote {
     pub answer: Taking,
     pub writer: PageWriter,
@@ -44,7 +44,7 @@ pub struct Wrote {
 }
 
 // The answer of open, open_append, commit and write_header.
-#[derive(Drop)]
+#[derive(Clone, Copy)]
 pub struct Ended {
     pub answer: Outcome,
     pub writer: PageWriter,
@@ -52,7 +52,7 @@ pub struct Ended {
 }
 
 // The answer of len.
-#[derive(Drop)]
+#[derive(Clone, Copy)]
 pub enum Length {
     Bytes(usize),
     Refused(Refusal),

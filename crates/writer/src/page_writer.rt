@@ -11,7 +11,7 @@ use types::config::{ALIGN, PAGE_HEADER_SIZE};
 use types::page_id::PageID;
 use types::refusal::Verdict;
 
-#[derive(Drop)]
+#[derive(Clone, Copy)]
 pub struct PageWriter {
     pub page: PageID,
     // Bytes of the higher header.
