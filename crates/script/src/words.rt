@@ -1,5 +1,5 @@
 // Lines and words: a line ends at a newline, a word at a space.
-ghost use Rattle.std.specs.Prelude.{◌≡◌};
+ghost use Rattle.std.specs.Prelude.{◌≡◌, ◌↔◌, IsTrue};
 ghost use Rattle.script.specs.Words.{end_from, nth_word, word_count};
 
 use slices::part::part_of;
@@ -8,7 +8,9 @@ use types::num::{min, minus};
 const SPACE: u8 = b' ';
 
 // Whether two words are the same bytes.
-pub fn same(a: &[u8], b: &[u8]) -> bool {
+pub fn same(a: &[u8], b: &[u8]) -> bool
+    ensures equal { IsTrue result ↔ (a.now ≡ b.now) }
+{
     a == b
 }
 

@@ -1,0 +1,13 @@
+-- `digits::hex::put_bytes`: after i turns the first i bytes are put. Assumes nothing.
+use mathlib.Core.Path.{◌≡◌}
+use Prim.Native.Nat.{◌-◌, ◌/◌, ◌≤◌}
+use lib.ListN.{length, take}
+use Rattle.slices.specs.Patch.{over}
+use Rattle.digits.specs.Hex.{bytes_in}
+use Rattle.digits.proofs.hex.put_bytes.Given as goal
+
+abbrev pub invariant-loop-i : goal.invariant-loop-i
+invariant-loop-i l = (l.i ≤ l.n) × ((l.n ≡ length l.word / 2) × ((length l.out ≡ length l.initial.out) × (l.out ≡ over (take l.i (bytes_in l.word)) l.initial.out)))
+
+abbrev pub decreases-loop-i : goal.decreases-loop-i
+decreases-loop-i l = l.n - l.i
