@@ -71,13 +71,7 @@ fn open(rt: &HostRuntime, name: &[u8]) -> io::Result<File> {
 }
 
 // The same for the file of a name; - is standard input.
-fn read_named(
-    rt: &HostRuntime,
-    program: &[u8],
-    name: &[u8],
-    room: &mut [u8],
-    at: usize,
-) -> Filled {
+fn read_named(rt: &HostRuntime, program: &[u8], name: &[u8], room: &mut [u8], at: usize) -> Filled {
     if is_dash(name) {
         let mut input = rt.stdin();
         return fill(rt, program, &mut input, b"standard input", room, at);
@@ -92,13 +86,7 @@ fn read_named(
 }
 
 // The same for the file that argument i names.
-pub fn read_file(
-    rt: &HostRuntime,
-    program: &[u8],
-    i: usize,
-    room: &mut [u8],
-    at: usize,
-) -> Filled {
+pub fn read_file(rt: &HostRuntime, program: &[u8], i: usize, room: &mut [u8], at: usize) -> Filled {
     let mut name = [0; ARGUMENT_ROOM];
     match rt.arg(i, &mut name) {
         Ok(n) => read_named(rt, program, &name[..n], room, at),
