@@ -1,4 +1,6 @@
-use Rattle.std.proofs.Common.{◌≡◌, ◌-◌, ◌≤◌}
+-- `crc::bitwise::take`: the steps that are left lead to the result. Assumes nothing.
+use mathlib.Core.Path.{◌≡◌}
+use Prim.Native.Nat.{◌≤◌, ◌-◌}
 use Rattle.crc.specs.Register.{steps, taken}
 use Rattle.crc.proofs.bitwise.take.Given as goal
 
