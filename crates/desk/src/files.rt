@@ -1,4 +1,6 @@
 // Files, read one behind the other into one buffer.
+ghost use Rattle.std.specs.Prelude.{◌≤◌, length};
+
 use crate::arguments::ARGUMENT_ROOM;
 use crate::say::{fail, wrong};
 use slices::part::part_of;
