@@ -1,0 +1,12 @@
+use mathlib.Core.Path.{sym, ◌∙◌}
+use Rattle.alloc.specs.Checks.{state_check}
+use borrow.Author.Rules.{rules}
+use Rattle.alloc.proofs.checks.check_state.Goals as goal
+
+pub returns-then-in_range : goal.returns-then-in_range
+unfolding state_check
+returns-then-in_range c = record { answers = rw (sym c.in_range.ensures.answers ∙ c.if-in_range.true) }
+
+pub returns-else-in_range : goal.returns-else-in_range
+unfolding state_check
+returns-else-in_range c = record { answers = rw (sym c.in_range.ensures.answers ∙ c.if-in_range.false) }
