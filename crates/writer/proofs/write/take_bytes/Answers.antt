@@ -42,7 +42,8 @@ returns c =
     c.erase_if-a.result c.store_if-b.result c.store_if-c.result c.finish_chunk-d.result
     c.requires.bytes_value c.lacking-lack.ensures.answers c.to_group-first.ensures.answers c.to_whole-many.ensures.answers
     c.group_of-group.ensures.answers c.part_of.ensures.answers c.requires.next_value
-    (c.erase_if-a.ensures.answers, c.erase_if-a.ensures.bytes) (c.store_if-b.ensures.answers, c.store_if-b.ensures.bytes) (c.store_if-c.ensures.answers, c.store_if-c.ensures.bytes) (c.finish_chunk-d.ensures.answers, c.finish_chunk-d.ensures.bytes) in
+    (c.erase_if-a.ensures.answers, c.erase_if-a.ensures.bytes) (c.store_if-b.ensures.answers, c.store_if-b.ensures.bytes) (c.store_if-c.ensures.answers, c.store_if-c.ensures.bytes)
+    (c.finish_chunk-d.ensures.answers, c.finish_chunk-d.ensures.bytes) in
     record {
       answers = all.0;
       bytes = all.1;
