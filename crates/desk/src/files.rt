@@ -1,7 +1,13 @@
 // Files, read one behind the other into one buffer.
-use crate::say::{text, wrong};
-use libc::{STDIN_FILENO, read};
+ghost use Rattle.std.specs.Prelude.{◌≤◌, length};
+
+use crate::arguments::ARGUMENT_ROOM;
+use crate::say::{fail, wrong};
 use slices::part::part_of;
+use std::env::Env;
+use std::fs::File;
+use std::io;
+use std::io::Read;
 
 #[derive(Clone, Copy)]
 pub enum Filled {
@@ -12,29 +18,43 @@ pub enum Filled {
     Bad,
 }
 
-// Says why the last call failed.
-fn fail(program: &[u8], name: &[u8]) {
-    text(program);
-    text(b": ");
-    os::fail(name);
+// Reads until the room is full, the file ends or a read fails: how many bytes it put at the room's start.
+pub fn read_full(file: &mut impl Read, room: &mut [u8]) -> usize
+    ensures in_bounds { result ≤ length room.new }
+{
+    let mut done = 0;
+    while done < room.len() {
+        let n = file.read(&mut room[done..]).unwrap_or(0);
+        if n == 0 {
+            return done;
+        }
+        done += n;
+    }
+    done
 }
 
 // The file's bytes from an index on: where they end.
-fn fill(program: &[u8], fd: i32, name: &[u8], room: &mut [u8], at: usize) -> Filled {
+fn fill(
+    rt: &HostRuntime,
+    program: &[u8],
+    file: &mut impl Read,
+    name: &[u8],
+    room: &mut [u8],
+    at: usize,
+) -> Filled {
     let mut more = [0; 1];
     if room.len() < at {
         return Filled::Bad;
     }
-    let n = io::read_full(fd, &mut room[at..]);
-    let rest = read(fd, &mut more);
-    if rest < 0 {
-        fail(program, name);
-        return Filled::Bad;
+    let n = read_full(file, &mut room[at..]);
+    match file.read(&mut more) {
+        Ok(0) => Filled::To(at + n),
+        Ok(_) => Filled::More,
+        Err(why) => {
+            fail(rt, program, name, &why);
+            Filled::Bad
+        }
     }
-    if 0 < rest {
-        return Filled::More;
-    }
-    Filled::To(at + n)
 }
 
 fn is_dash(name: &[u8]) -> bool {
@@ -44,32 +64,42 @@ fn is_dash(name: &[u8]) -> bool {
     false
 }
 
+// Opens a file to read. A path is text here, so a name that is no UTF-8 is refused.
+fn open(rt: &HostRuntime, name: &[u8]) -> io::Result<File> {
+    match str::from_utf8(name) {
+        Ok(path) => File::open(rt, path),
+        Err(_) => Err(io::Error::from(io::ErrorKind::InvalidFilename)),
+    }
+}
+
 // The same for the file of a name; - is standard input.
-fn read_named(program: &[u8], name: &[u8], room: &mut [u8], at: usize) -> Filled {
+fn read_named(rt: &HostRuntime, program: &[u8], name: &[u8], room: &mut [u8], at: usize) -> Filled {
     if is_dash(name) {
-        return fill(program, STDIN_FILENO, b"standard input", room, at);
+        let mut input = rt.stdin();
+        return fill(rt, program, &mut input, b"standard input", room, at);
     }
-    let fd = os::open_read(name);
-    if fd < 0 {
-        fail(program, name);
-        return Filled::Bad;
+    match open(rt, name) {
+        Ok(mut file) => fill(rt, program, &mut file, name, room, at),
+        Err(why) => {
+            fail(rt, program, name, &why);
+            Filled::Bad
+        }
     }
-    let filled = fill(program, fd, name, room, at);
-    libc::close(fd);
-    filled
 }
 
 // The same for the file that argument i names.
-pub fn read_file(program: &[u8], i: usize, room: &mut [u8], at: usize) -> Filled {
-    let mut name = io::buffer();
-    let n = os::arg(i, &mut name);
-    if os::errno() != 0 {
-        wrong(
-            program,
-            b"a name is longer than 4096 bytes",
-            part_of(&name, 0, 60),
-        );
-        return Filled::Bad;
+pub fn read_file(rt: &HostRuntime, program: &[u8], i: usize, room: &mut [u8], at: usize) -> Filled {
+    let mut name = [0; ARGUMENT_ROOM];
+    match rt.arg(i, &mut name) {
+        Ok(n) => read_named(rt, program, &name[..n], room, at),
+        Err(_) => {
+            wrong(
+                rt,
+                program,
+                b"a name is longer than 4096 bytes",
+                part_of(&name, 0, 60),
+            );
+            Filled::Bad
+        }
     }
-    read_named(program, &name[..n], room, at)
 }

@@ -1,6 +1,7 @@
-// What the programs for people share: words on standard output and standard error, and files read into room.
+// What the programs for people share: their arguments, words on standard output and standard error, and files read into room.
 
 #![tactic(auto)]
 
+pub mod arguments;
 pub mod files;
 pub mod say;

@@ -1,93 +1,114 @@
 // Words for people. Standard error has what went wrong, in lines that start with the program's name, which the caller gives first.
 // Standard output has the list; a list that is not whole ends in a line that starts with one backslash, as no entry's line does.
-use libc::{STDERR_FILENO, STDOUT_FILENO};
+use crate::arguments::ARGUMENT_ROOM;
+use std::env::Env;
+use std::fmt::InlineText;
+use std::io;
 use types::refusal::Refusal;
 
-pub fn text(bytes: &[u8]) {
-    io::write_all(STDERR_FILENO, bytes);
+pub fn text(rt: &HostRuntime, bytes: &[u8]) {
+    text_on(&rt.stderr(), bytes);
 }
 
-pub fn number(n: usize) {
-    number_on(STDERR_FILENO, n);
+pub fn number(rt: &HostRuntime, n: usize) {
+    number_on(&rt.stderr(), n);
 }
 
-// Words and a number, on either of the two.
-pub fn text_on(fd: i32, bytes: &[u8]) {
-    io::write_all(fd, bytes);
+// Words and a number, on either of the two. Where they can't be written, nobody is told.
+pub fn text_on(to: &impl Print, bytes: &[u8]) {
+    let _ = to.write_all(bytes);
 }
 
-pub fn number_on(fd: i32, n: usize) {
-    io::print_decimal(fd, n as u64);
+pub fn number_on(to: &impl Print, n: usize) {
+    let _ = to.print(n);
 }
 
 // What is wrong, and with which argument, where there is one.
-pub fn wrong(program: &[u8], what: &[u8], argument: &[u8]) {
-    text(program);
-    text(b": ");
-    text(what);
+pub fn wrong(rt: &HostRuntime, program: &[u8], what: &[u8], argument: &[u8]) {
+    text(rt, program);
+    text(rt, b": ");
+    text(rt, what);
     if argument.len() != 0 {
-        text(b": ");
-        text(argument);
+        text(rt, b": ");
+        text(rt, argument);
     }
-    text(b"\n");
+    text(rt, b"\n");
 }
 
 // Argument i, as it was typed.
-pub fn argument(i: usize) {
-    let mut word = io::buffer();
-    let n = os::arg(i, &mut word);
-    text(&word[..n]);
+pub fn argument(rt: &HostRuntime, i: usize) {
+    let mut word = [0; ARGUMENT_ROOM];
+    let n = rt.arg(i, &mut word).unwrap_or(0);
+    text(rt, &word[..n]);
 }
 
-// Says that standard output takes no more, and why.
-pub fn output_failed(program: &[u8]) {
-    text(program);
-    os::fail(b": standard output");
-}
-
-// The name in the table of docs/RULES.md, Refusals.
-fn name_on(fd: i32, why: Refusal) {
-    match why {
-        Refusal::Corrupted => text_on(fd, b"Corrupted"),
-        Refusal::KeyBufferTooSmall => text_on(fd, b"KeyBufferTooSmall"),
-        Refusal::ValueBufferTooSmall => text_on(fd, b"ValueBufferTooSmall"),
-        Refusal::OutOfRange => text_on(fd, b"OutOfRange"),
-        Refusal::BadFlash => text_on(fd, b"BadFlash"),
-        Refusal::BadHeader => text_on(fd, b"BadHeader"),
-        Refusal::BadCount => text_on(fd, b"BadCount"),
-        Refusal::LaterEdition => text_on(fd, b"LaterEdition"),
-        Refusal::Cut => text_on(fd, b"Cut"),
-        Refusal::BadRuns => text_on(fd, b"BadRuns"),
-        Refusal::BadState => text_on(fd, b"BadState"),
+// Why a call of the system failed, without the number that std puts behind the words.
+fn reason(rt: &HostRuntime, why: &io::Error) {
+    let all: InlineText<256> = InlineText::of(why);
+    match all.as_str().split_once(" (os error ") {
+        Some((words, _)) => text(rt, words.as_bytes()),
+        None => text(rt, all.as_str().as_bytes()),
     }
 }
 
-fn refusal_on(fd: i32, why: Refusal) {
-    name_on(fd, why);
-    text_on(fd, b" (");
-    number_on(fd, why.number() as usize);
-    text_on(fd, b")");
+// Says what failed, and why.
+pub fn fail(rt: &HostRuntime, program: &[u8], name: &[u8], why: &io::Error) {
+    text(rt, program);
+    text(rt, b": ");
+    text(rt, name);
+    text(rt, b": ");
+    reason(rt, why);
+    text(rt, b"\n");
+}
+
+// Says that standard output takes no more, and why.
+pub fn output_failed(rt: &HostRuntime, program: &[u8], why: &io::Error) {
+    fail(rt, program, b"standard output", why);
+}
+
+// The name in the table of docs/RULES.md, Refusals.
+fn name_on(to: &impl Print, why: Refusal) {
+    match why {
+        Refusal::Corrupted => text_on(to, b"Corrupted"),
+        Refusal::KeyBufferTooSmall => text_on(to, b"KeyBufferTooSmall"),
+        Refusal::ValueBufferTooSmall => text_on(to, b"ValueBufferTooSmall"),
+        Refusal::OutOfRange => text_on(to, b"OutOfRange"),
+        Refusal::BadFlash => text_on(to, b"BadFlash"),
+        Refusal::BadHeader => text_on(to, b"BadHeader"),
+        Refusal::BadCount => text_on(to, b"BadCount"),
+        Refusal::LaterEdition => text_on(to, b"LaterEdition"),
+        Refusal::Cut => text_on(to, b"Cut"),
+        Refusal::BadRuns => text_on(to, b"BadRuns"),
+        Refusal::BadState => text_on(to, b"BadState"),
+    }
+}
+
+fn refusal_on(to: &impl Print, why: Refusal) {
+    name_on(to, why);
+    text_on(to, b" (");
+    number_on(to, why.number() as usize);
+    text_on(to, b")");
 }
 
 // A refusal's name and number; where it is, the caller says next.
-pub fn refusal(program: &[u8], why: Refusal) {
-    text(program);
-    text(b": ");
-    refusal_on(STDERR_FILENO, why);
+pub fn refusal(rt: &HostRuntime, program: &[u8], why: Refusal) {
+    text(rt, program);
+    text(rt, b": ");
+    refusal_on(&rt.stderr(), why);
 }
 
 // The last line of a run that was refused.
-pub fn refused() {
-    text(b"\nrefused\n");
+pub fn refused(rt: &HostRuntime) {
+    text(rt, b"\nrefused\n");
 }
 
 // The start of the line that ends a refused list; where the refusal is, and the line's end, the caller says next.
-pub fn list_refused(why: Refusal) {
-    text_on(STDOUT_FILENO, b"\\refused ");
-    refusal_on(STDOUT_FILENO, why);
+pub fn list_refused(rt: &HostRuntime, why: Refusal) {
+    text_on(rt, b"\\refused ");
+    refusal_on(rt, why);
 }
 
 // The line in place of a list that could not be made.
-pub fn list_failed() {
-    text_on(STDOUT_FILENO, b"\\failed\n");
+pub fn list_failed(rt: &HostRuntime) {
+    text_on(rt, b"\\failed\n");
 }

@@ -6,8 +6,11 @@ mod pages;
 mod records;
 mod say;
 
-fn main() {
-    pages::tour();
+fn main(rt: HostRuntime) {
+    pages::tour(&rt);
     // a=1, b deleted, c=23, and then two bytes that are no record.
-    records::tour(b"HV\x00\x01\x01\x00a1HV\x01\x01\x00\x00bHV\x00\x01\x02\x00c23HV");
+    records::tour(
+        &rt,
+        b"HV\x00\x01\x01\x00a1HV\x01\x01\x00\x00bHV\x00\x01\x02\x00c23HV",
+    );
 }

@@ -25,31 +25,31 @@ fn hand_out() -> HandedOut {
     }
 }
 
-fn say_page(answer: Allocated) {
-    say::text(b"page");
+fn say_page(rt: &impl Print, answer: Allocated) {
+    say::text(rt, b"page");
     match answer {
-        Allocated::Page(page) => say::number(page.index()),
-        Allocated::None => say::text(b" none"),
-        Allocated::Refused(why) => say::refused(why),
+        Allocated::Page(page) => say::number(rt, page.index()),
+        Allocated::None => say::text(rt, b" none"),
+        Allocated::Refused(why) => say::refused(rt, why),
     }
-    say::text(b"\n");
+    say::text(rt, b"\n");
 }
 
-fn say_left(answer: Count) {
-    say::text(b"left");
+fn say_left(rt: &impl Print, answer: Count) {
+    say::text(rt, b"left");
     match answer {
-        Count::Pages(n) => say::number(n),
-        Count::Refused(why) => say::refused(why),
+        Count::Pages(n) => say::number(rt, n),
+        Count::Refused(why) => say::refused(rt, why),
     }
-    say::text(b"\n");
+    say::text(rt, b"\n");
 }
 
-pub(crate) fn tour() {
+pub(crate) fn tour(rt: &impl Print) {
     let got = hand_out();
     let first = got.first;
     let second = got.second;
     let left = got.left;
-    say_page(first);
-    say_page(second);
-    say_left(left);
+    say_page(rt, first);
+    say_page(rt, second);
+    say_left(rt, left);
 }

@@ -1,17 +1,16 @@
-// What the tour prints, word by word.
-use libc::STDOUT_FILENO;
+// What the tour prints, word by word. Where it can't be printed, nobody is told.
 use types::refusal::Refusal;
 
-pub(crate) fn text(bytes: &[u8]) {
-    io::write_all(STDOUT_FILENO, bytes);
+pub(crate) fn text(rt: &impl Print, bytes: &[u8]) {
+    let _ = rt.write_all(bytes);
 }
 
-pub(crate) fn number(n: usize) {
-    text(b" ");
-    io::print_decimal(STDOUT_FILENO, n as u64);
+pub(crate) fn number(rt: &impl Print, n: usize) {
+    text(rt, b" ");
+    let _ = rt.print(n);
 }
 
-pub(crate) fn refused(why: Refusal) {
-    text(b" refused");
-    number(why.number() as usize);
+pub(crate) fn refused(rt: &impl Print, why: Refusal) {
+    text(rt, b" refused");
+    number(rt, why.number() as usize);
 }

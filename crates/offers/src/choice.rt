@@ -1,10 +1,10 @@
 // What the arguments ask for. Keys and names stay where they are: only their places are kept.
 use crate::help::usage_on;
-use check::same;
+use desk::arguments::{ARGUMENT_ROOM, argument_count};
 use desk::say::wrong;
-use libc::STDERR_FILENO;
 use run::bound::Bound;
 use slices::part::part_of;
+use std::env::Env;
 use types::config::FILE_COUNT;
 
 #[derive(Clone, Copy)]
@@ -66,17 +66,17 @@ impl Choice {
     }
 
     // The choice after an argument that cannot be taken; only the first one is named.
-    fn stopped(mut self, what: &[u8], argument: &[u8]) -> Choice {
+    fn stopped(mut self, rt: &HostRuntime, what: &[u8], argument: &[u8]) -> Choice {
         if self.fine {
-            wrong(b"offers", what, argument);
+            wrong(rt, b"offers", what, argument);
         }
         self.fine = false;
         self
     }
 
-    fn with_lower(mut self, takes_in: bool, i: usize, word: &[u8]) -> Choice {
+    fn with_lower(mut self, rt: &HostRuntime, takes_in: bool, i: usize, word: &[u8]) -> Choice {
         if self.lower_at != 0 {
-            return self.stopped(b"a second lower bound", word);
+            return self.stopped(rt, b"a second lower bound", word);
         }
         self.from = takes_in;
         self.lower_at = i;
@@ -84,9 +84,9 @@ impl Choice {
         self
     }
 
-    fn with_upper(mut self, takes_in: bool, i: usize, word: &[u8]) -> Choice {
+    fn with_upper(mut self, rt: &HostRuntime, takes_in: bool, i: usize, word: &[u8]) -> Choice {
         if self.upper_at != 0 {
-            return self.stopped(b"a second upper bound", word);
+            return self.stopped(rt, b"a second upper bound", word);
         }
         self.to = takes_in;
         self.upper_at = i;
@@ -94,10 +94,10 @@ impl Choice {
         self
     }
 
-    fn with_file(mut self, i: usize, word: &[u8]) -> Choice {
+    fn with_file(mut self, rt: &HostRuntime, i: usize, word: &[u8]) -> Choice {
         let k = self.files;
         if FILE_COUNT <= k {
-            return self.stopped(b"more than 17 runs", word);
+            return self.stopped(rt, b"more than 17 runs", word);
         }
         let mut names = self.names;
         names[k] = i;
@@ -106,90 +106,91 @@ impl Choice {
         self
     }
 
-    fn with_flag(mut self, word: &[u8]) -> Choice {
-        if same(word, b"--count") {
+    fn with_flag(mut self, rt: &HostRuntime, word: &[u8]) -> Choice {
+        if word == b"--count".as_slice() {
             self.only_count = true;
             return self;
         }
-        if same(word, b"--why") {
+        if word == b"--why".as_slice() {
             self.why = true;
             return self;
         }
-        if same(word, b"--utf8") {
+        if word == b"--utf8".as_slice() {
             self.utf8 = true;
             return self;
         }
-        if same(word, b"--help") | same(word, b"-h") {
+        if (word == b"--help".as_slice()) | (word == b"-h".as_slice()) {
             self.helps = true;
             return self;
         }
-        self.stopped(b"no such option", word)
+        self.stopped(rt, b"no such option", word)
     }
 
-    fn with_option(self, i: usize, word: &[u8]) -> Choice {
-        if same(word, b"--from") {
-            return self.with_lower(true, i, word);
+    fn with_option(self, rt: &HostRuntime, i: usize, word: &[u8]) -> Choice {
+        if word == b"--from".as_slice() {
+            return self.with_lower(rt, true, i, word);
         }
-        if same(word, b"--after") {
-            return self.with_lower(false, i, word);
+        if word == b"--after".as_slice() {
+            return self.with_lower(rt, false, i, word);
         }
-        if same(word, b"--to") {
-            return self.with_upper(true, i, word);
+        if word == b"--to".as_slice() {
+            return self.with_upper(rt, true, i, word);
         }
-        if same(word, b"--before") {
-            return self.with_upper(false, i, word);
+        if word == b"--before".as_slice() {
+            return self.with_upper(rt, false, i, word);
         }
-        self.with_flag(word)
+        self.with_flag(rt, word)
     }
 
     // With argument i, which is no key. A single - is a file's name.
-    fn with_word(self, i: usize, word: &[u8]) -> Choice {
+    fn with_word(self, rt: &HostRuntime, i: usize, word: &[u8]) -> Choice {
         if word.len() == 0 {
-            return self.stopped(b"an argument is empty", word);
+            return self.stopped(rt, b"an argument is empty", word);
         }
         if (word[0] == b'-') & (1 < word.len()) {
-            return self.with_option(i, word);
+            return self.with_option(rt, i, word);
         }
-        self.with_file(i, word)
+        self.with_file(rt, i, word)
     }
 
-    fn with_argument(mut self, i: usize) -> Choice {
+    fn with_argument(mut self, rt: &HostRuntime, i: usize) -> Choice {
         if self.takes {
             self.takes = false;
             return self;
         }
-        let mut space = io::buffer();
-        let n = os::arg(i, &mut space);
-        if os::errno() != 0 {
-            return self.stopped(
+        let mut space = [0; ARGUMENT_ROOM];
+        match rt.arg(i, &mut space) {
+            Ok(n) => self.with_word(rt, i, part_of(&space, 0, n)),
+            Err(_) => self.stopped(
+                rt,
                 b"an argument is longer than 4096 bytes",
                 part_of(&space, 0, 60),
-            );
+            ),
         }
-        self.with_word(i, part_of(&space, 0, n))
     }
 
     // The choice once all arguments were looked at.
-    fn ended(self) -> Choice {
+    fn ended(self, rt: &HostRuntime) -> Choice {
         if self.takes {
             return self.stopped(
+                rt,
                 b"a key is missing after the last option",
                 b"--from, --after, --to or --before",
             );
         }
         if (self.files == 0) & self.fine & !self.helps {
-            let left = self.stopped(b"no run is named", b"");
-            usage_on(STDERR_FILENO);
+            let left = self.stopped(rt, b"no run is named", b"");
+            usage_on(&rt.stderr());
             return left;
         }
         self
     }
 }
 
-pub(crate) fn chosen() -> Choice {
+pub(crate) fn chosen(rt: &HostRuntime) -> Choice {
     let mut c = at_first();
-    for i in 1..os::arg_count() {
-        c = c.with_argument(i);
+    for i in 1..argument_count(rt) {
+        c = c.with_argument(rt, i);
     }
-    c.ended()
+    c.ended(rt)
 }

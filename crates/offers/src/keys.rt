@@ -1,8 +1,10 @@
 // A bound's key, as an argument has it: \xNN is a byte, \\ a backslash, any other byte itself.
 use crate::line::put;
+use desk::arguments::{ARGUMENT_ROOM, argument_count};
 use desk::say::wrong;
 use digits::hex::{Decoded, decode};
 use slices::part::part_of;
+use std::env::Env;
 use types::num::{min, minus};
 
 #[derive(Clone, Copy)]
@@ -78,26 +80,27 @@ fn unescape(text: &[u8], out: &mut [u8]) -> Key {
 }
 
 // The key that the argument after i spells, at the buffer's start; none where i is 0.
-pub(crate) fn key_after(i: usize, out: &mut [u8]) -> Key {
+pub(crate) fn key_after(rt: &HostRuntime, i: usize, out: &mut [u8]) -> Key {
     if i == 0 {
         return Key::Bytes(0);
     }
-    if os::arg_count() <= i {
+    if argument_count(rt) <= i {
         return Key::Bytes(0);
     }
-    let mut space = io::buffer();
-    let n = os::arg(i + 1, &mut space);
-    if os::errno() != 0 {
+    let mut space = [0; ARGUMENT_ROOM];
+    let Ok(n) = rt.arg(i + 1, &mut space) else {
         wrong(
+            rt,
             b"offers",
             b"a key is longer than 4096 bytes",
             part_of(&space, 0, 60),
         );
         return Key::Bad;
-    }
+    };
     let key = unescape(&space[..n], out);
     if let Key::Bad = key {
         wrong(
+            rt,
             b"offers",
             b"a backslash in a key is \\\\, or \\x and two of 0-9a-f",
             &space[..n],

@@ -16,25 +16,25 @@ use script::space::all_runs_space;
 use types::config::FILE_COUNT;
 
 // Lists, or says why not and answers false.
-fn list(c: Choice) -> bool {
+fn list(rt: &HostRuntime, c: Choice) -> bool {
     let mut runs = all_runs_space();
     let mut ends = [0; FILE_COUNT];
-    if files::read_all(c, &mut runs, &mut ends) {
-        return listing::list(c, &runs, ends);
+    if files::read_all(rt, c, &mut runs, &mut ends) {
+        return listing::list(rt, c, &runs, ends);
     }
     false
 }
 
-fn main() {
-    let c = chosen();
+fn main(rt: HostRuntime) {
+    let c = chosen(&rt);
     if c.helps {
-        help::say();
+        help::say(&rt);
         return;
     }
     if c.fine {
-        if list(c) {
+        if list(&rt, c) {
             return;
         }
     }
-    say::list_failed();
+    say::list_failed(&rt);
 }

@@ -1,5 +1,4 @@
 // Where a merge was refused: in which run, and how far into it; and which run decided an entry.
-use check::same;
 use cursor::place::{Cursor, Place, RunPlace};
 use run::bound::Bound;
 use run::record::{Head, head_at};
@@ -114,7 +113,7 @@ fn has_at(run: &[u8], at: usize, key: &[u8]) -> bool {
     let Head::Record(record) = head else {
         return false;
     };
-    same(record.key_in(run), key)
+    record.key_in(run) == key
 }
 
 // Whether the first record from a position on whose key is not below this key has this key.

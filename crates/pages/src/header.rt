@@ -3,23 +3,23 @@ use crate::line::{hex_on, line_end, text};
 use crc::crc32;
 use desk::say::{number_on, text_on};
 use digits::hex::encode;
-use libc::STDOUT_FILENO;
 use page::header::header_of;
 use slices::field::get32;
 use slices::part::part_of;
+use std::io;
 use types::config::{ALIGN, MAX_HEADER_SIZE};
 use types::page_id::PageID;
 
 // The higher header's bytes, where there are any.
-pub(crate) fn say_higher(page: &[u8], h: usize) {
+pub(crate) fn say_higher(rt: &HostRuntime, page: &[u8], h: usize) {
     let mut space = [0; 2 * MAX_HEADER_SIZE];
     if h == 0 {
         return;
     }
     let n = encode(header_of(page, h), &mut space);
-    text(b"header ");
-    text(part_of(&space, 0, n));
-    text(b", ");
+    text(rt, b"header ");
+    text(rt, part_of(&space, 0, n));
+    text(rt, b", ");
 }
 
 // The first length of a higher header at which the page's sum is right, or one that is too long.
@@ -35,55 +35,61 @@ fn fitting_length(page: &[u8]) -> usize {
 }
 
 // Both sums, and the length at which they would be one.
-fn sums_on(fd: i32, page: &[u8], h: usize) {
+fn sums_on(to: &impl Print, page: &[u8], h: usize) {
     let other = fitting_length(page);
-    text_on(fd, b"its sum is ");
-    hex_on(fd, get32(page, 8));
-    text_on(fd, b", and that of a higher header of ");
-    number_on(fd, h);
-    text_on(fd, b" bytes is ");
-    hex_on(fd, crc32(header_of(page, h)));
+    text_on(to, b"its sum is ");
+    hex_on(to, get32(page, 8));
+    text_on(to, b", and that of a higher header of ");
+    number_on(to, h);
+    text_on(to, b" bytes is ");
+    hex_on(to, crc32(header_of(page, h)));
     if other <= MAX_HEADER_SIZE {
-        text_on(fd, b"; with ");
-        number_on(fd, other);
-        text_on(fd, b" bytes it is right");
+        text_on(to, b"; with ");
+        number_on(to, other);
+        text_on(to, b" bytes it is right");
     }
 }
 
 // The first check of a refused header that fails, in the order of the calls, and what stands there.
-pub(crate) fn fault_on(fd: i32, page: &[u8], magic: u32, id: PageID, h: usize) {
+pub(crate) fn fault_on(to: &impl Print, page: &[u8], magic: u32, id: PageID, h: usize) {
     let there = get32(page, 0);
     let place = get32(page, 4) as usize;
-    text_on(fd, b"in its header: ");
+    text_on(to, b"in its header: ");
     if there != magic {
-        text_on(fd, b"its magic is ");
-        hex_on(fd, there);
+        text_on(to, b"its magic is ");
+        hex_on(to, there);
         return;
     }
     if place != id.index() {
-        text_on(fd, b"its page number is ");
-        number_on(fd, place);
+        text_on(to, b"its page number is ");
+        number_on(to, place);
         return;
     }
-    sums_on(fd, page, h);
+    sums_on(to, page, h);
 }
 
 // The line of a page whose header is refused. It has the higher header where magic and page number are right.
-pub(crate) fn say_refused(page: &[u8], magic: u32, id: PageID, h: usize) -> bool {
+pub(crate) fn say_refused(
+    rt: &HostRuntime,
+    page: &[u8],
+    magic: u32,
+    id: PageID,
+    h: usize,
+) -> io::Result<()> {
     if (get32(page, 0) == magic) & (get32(page, 4) as usize == id.index()) {
-        say_higher(page, h);
+        say_higher(rt, page, h);
     }
-    text(b"Corrupted (1) ");
-    fault_on(STDOUT_FILENO, page, magic, id, h);
-    line_end(b"\n")
+    text(rt, b"Corrupted (1) ");
+    fault_on(rt, page, magic, id, h);
+    line_end(rt, b"\n")
 }
 
 // Says why this H is not allowed.
-pub(crate) fn length_on(fd: i32, h: usize) {
-    text_on(fd, b": H is ");
-    number_on(fd, h);
-    text_on(fd, b", and not a multiple of ");
-    number_on(fd, ALIGN);
-    text_on(fd, b" up to ");
-    number_on(fd, MAX_HEADER_SIZE);
+pub(crate) fn length_on(to: &impl Print, h: usize) {
+    text_on(to, b": H is ");
+    number_on(to, h);
+    text_on(to, b", and not a multiple of ");
+    number_on(to, ALIGN);
+    text_on(to, b" up to ");
+    number_on(to, MAX_HEADER_SIZE);
 }

@@ -1,25 +1,26 @@
 // The parts of a line of the list.
+use desk::say::{number_on, text_on};
 use digits::hex::hex32;
-use libc::STDOUT_FILENO;
+use std::io;
 
-pub(crate) fn text(bytes: &[u8]) {
-    io::write_all(STDOUT_FILENO, bytes);
+pub(crate) fn text(rt: &HostRuntime, bytes: &[u8]) {
+    text_on(rt, bytes);
 }
 
-pub(crate) fn number(n: usize) {
-    io::print_decimal(STDOUT_FILENO, n as u64);
+pub(crate) fn number(rt: &HostRuntime, n: usize) {
+    number_on(rt, n);
 }
 
-pub(crate) fn hex_on(fd: i32, n: u32) {
+pub(crate) fn hex_on(to: &impl Print, n: u32) {
     let digits = hex32(n);
-    io::write_all(fd, &digits);
+    text_on(to, &digits);
 }
 
-pub(crate) fn hex(n: u32) {
-    hex_on(STDOUT_FILENO, n);
+pub(crate) fn hex(rt: &HostRuntime, n: u32) {
+    hex_on(rt, n);
 }
 
 // The end of a line, and whether it could be written.
-pub(crate) fn line_end(bytes: &[u8]) -> bool {
-    io::write_all(STDOUT_FILENO, bytes)
+pub(crate) fn line_end(rt: &HostRuntime, bytes: &[u8]) -> io::Result<()> {
+    rt.write_all(bytes)
 }

@@ -6,44 +6,58 @@ use crate::line::{hex, line_end, number, text};
 use crate::walk::{chunks_start, say_walk, walked};
 use desk::say;
 use flash::geometry::page_of;
-use libc::{STDERR_FILENO, STDOUT_FILENO};
 use page::header::{check_header, page_header_fine};
 use page::walk::all_erased;
 use slices::field::get32;
+use std::io;
 use types::config::{ERASE_VALUE, MAX_PAGE_COUNT, PAGE_SIZE};
 use types::num::min;
 use types::page_id::PageID;
 use types::refusal::{Refusal, Verdict};
 
-fn say_good(page: &[u8], h: usize, chunks: bool) -> bool {
+fn say_good(rt: &HostRuntime, page: &[u8], h: usize, chunks: bool) -> io::Result<()> {
     let start = chunks_start(h);
-    say_higher(page, h);
-    let said = say_walk(page, walked(page, start));
-    if said & chunks {
-        return say_chunks(page, start);
+    say_higher(rt, page, h);
+    say_walk(rt, page, walked(page, start))?;
+    if chunks {
+        return say_chunks(rt, page, start);
     }
-    said
+    Ok(())
 }
 
-fn say_page(flash: &[u8], magic: u32, id: PageID, h: usize, chunks: bool) -> bool {
+fn say_page(
+    rt: &HostRuntime,
+    flash: &[u8],
+    magic: u32,
+    id: PageID,
+    h: usize,
+    chunks: bool,
+) -> io::Result<()> {
     let page = page_of(flash, id);
-    text(b"page ");
-    number(id.index());
-    text(b": ");
+    text(rt, b"page ");
+    number(rt, id.index());
+    text(rt, b": ");
     if all_erased(page, ERASE_VALUE) {
-        return line_end(b"erased\n");
+        return line_end(rt, b"erased\n");
     }
     if !page_header_fine(page, magic, id, h) {
-        return header::say_refused(page, magic, id, h);
+        return header::say_refused(rt, page, magic, id, h);
     }
-    say_good(page, h, chunks)
+    say_good(rt, page, h, chunks)
 }
 
-fn say_page_at(flash: &[u8], magic: u32, i: usize, h: usize, chunks: bool) -> bool {
+fn say_page_at(
+    rt: &HostRuntime,
+    flash: &[u8],
+    magic: u32,
+    i: usize,
+    h: usize,
+    chunks: bool,
+) -> io::Result<()> {
     if i < MAX_PAGE_COUNT {
-        return say_page(flash, magic, PageID(i as u16), h, chunks);
+        return say_page(rt, flash, magic, PageID(i as u16), h, chunks);
     }
-    true
+    Ok(())
 }
 
 // The magics on the pages so far.
@@ -95,47 +109,52 @@ fn magics_of(flash: &[u8], asked: u32, count: usize) -> Magics {
 }
 
 // One line in place of all, where every page has one other magic: it is more likely that the magic was typed wrong.
-fn say_other(magic: u32, there: u32) -> bool {
-    text(b"no page has the magic ");
-    hex(magic);
-    text(b": that of every page which is not erased is ");
-    hex(there);
-    line_end(b"\n")
+fn say_other(rt: &HostRuntime, magic: u32, there: u32) -> io::Result<()> {
+    text(rt, b"no page has the magic ");
+    hex(rt, magic);
+    text(rt, b": that of every page which is not erased is ");
+    hex(rt, there);
+    line_end(rt, b"\n")
 }
 
-fn say_each(flash: &[u8], magic: u32, h: usize, chunks: bool, count: usize) -> bool {
+fn say_each(
+    rt: &HostRuntime,
+    flash: &[u8],
+    magic: u32,
+    h: usize,
+    chunks: bool,
+    count: usize,
+) -> io::Result<()> {
     for i in 0..count {
-        if !say_page_at(flash, magic, i, h, chunks) {
-            return false;
-        }
+        say_page_at(rt, flash, magic, i, h, chunks)?;
     }
-    true
+    Ok(())
 }
 
-fn say_pages(flash: &[u8], magic: u32, h: usize, chunks: bool) -> bool {
+fn say_pages(rt: &HostRuntime, flash: &[u8], magic: u32, h: usize, chunks: bool) -> io::Result<()> {
     let count = min(flash.len() / PAGE_SIZE, MAX_PAGE_COUNT);
     let m = magics_of(flash, magic, count);
     if m.any & !m.mixed {
-        return say_other(magic, m.first);
+        return say_other(rt, magic, m.first);
     }
-    say_each(flash, magic, h, chunks, count)
+    say_each(rt, flash, magic, h, chunks, count)
 }
 
-fn bad_header(why: Refusal, h: usize) {
-    say::refusal(b"pages", why);
-    length_on(STDERR_FILENO, h);
-    say::refused();
-    say::list_refused(why);
-    length_on(STDOUT_FILENO, h);
-    text(b"\n");
+fn bad_header(rt: &HostRuntime, why: Refusal, h: usize) {
+    say::refusal(rt, b"pages", why);
+    length_on(&rt.stderr(), h);
+    say::refused(rt);
+    say::list_refused(rt, why);
+    length_on(rt, h);
+    text(rt, b"\n");
 }
 
-pub(crate) fn list(flash: &[u8], magic: u32, h: usize, chunks: bool) {
+pub(crate) fn list(rt: &HostRuntime, flash: &[u8], magic: u32, h: usize, chunks: bool) {
     if let Verdict::Refused(why) = check_header(h) {
-        bad_header(why, h);
+        bad_header(rt, why, h);
         return;
     }
-    if !say_pages(flash, magic, h, chunks) {
-        say::output_failed(b"pages");
+    if let Err(why) = say_pages(rt, flash, magic, h, chunks) {
+        say::output_failed(rt, b"pages", &why);
     }
 }

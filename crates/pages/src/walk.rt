@@ -3,6 +3,7 @@ use crate::line::{line_end, number, text};
 use page::chunk::{Step, checked_at};
 use page::walk::all_erased;
 use slices::part::part_of;
+use std::io;
 use types::config::{ERASE_VALUE, MAX_HEADER_SIZE, PAGE_HEADER_SIZE, PAGE_SIZE};
 use types::num::min;
 
@@ -60,21 +61,21 @@ pub(crate) fn walked(page: &[u8], start: usize) -> Walk {
     }
 }
 
-pub(crate) fn say_walk(page: &[u8], w: Walk) -> bool {
-    text(b"chunks ");
-    number(w.chunks);
-    text(b", bytes ");
-    number(w.bytes);
-    text(b", ");
+pub(crate) fn say_walk(rt: &HostRuntime, page: &[u8], w: Walk) -> io::Result<()> {
+    text(rt, b"chunks ");
+    number(rt, w.chunks);
+    text(rt, b", bytes ");
+    number(rt, w.bytes);
+    text(rt, b", ");
     if w.refused {
-        text(b"Corrupted (1) at ");
-        number(w.at);
-        return line_end(b"\n");
+        text(rt, b"Corrupted (1) at ");
+        number(rt, w.at);
+        return line_end(rt, b"\n");
     }
-    text(b"end at ");
-    number(w.at);
+    text(rt, b"end at ");
+    number(rt, w.at);
     if all_erased(part_of(page, w.at, PAGE_SIZE), ERASE_VALUE) {
-        return line_end(b"\n");
+        return line_end(rt, b"\n");
     }
-    line_end(b", not erased behind it\n")
+    line_end(rt, b", not erased behind it\n")
 }

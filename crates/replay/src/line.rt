@@ -1,7 +1,7 @@
 // One line of a script.
 use crate::world::World;
-use check::same;
-use script::words::nth_word;
+use replay_say::Output;
+use script::words::{nth_word, same};
 use slices::part::part_of;
 
 // The bytes that a line can have.
@@ -14,9 +14,9 @@ fn stopped(w: World) -> World {
     left
 }
 
-fn on_allocator(w: World, line: &[u8]) -> World {
+fn on_allocator(out: &mut Output, w: World, line: &[u8]) -> World {
     let before = w.allocator;
-    let reply = replay_alloc::calls::answer(before, line);
+    let reply = replay_alloc::calls::answer(out, before, line);
     let allocator = reply.allocator;
     let mut left = w;
     left.fine = reply.fine;
@@ -24,17 +24,17 @@ fn on_allocator(w: World, line: &[u8]) -> World {
     left
 }
 
-fn on_flash(w: World, line: &[u8], flash: &mut [u8]) -> World {
-    let reply = replay_flash::calls::answer(w.flash_len, line, flash);
+fn on_flash(out: &mut Output, w: World, line: &[u8], flash: &mut [u8]) -> World {
+    let reply = replay_flash::calls::answer(out, w.flash_len, line, flash);
     let mut left = w;
     left.fine = reply.fine;
     left.flash_len = reply.len;
     left
 }
 
-fn on_reader(w: World, line: &[u8], flash: &[u8]) -> World {
+fn on_reader(out: &mut Output, w: World, line: &[u8], flash: &[u8]) -> World {
     let before = w.readers;
-    let reply = replay_reader::calls::answer(before, line, flash);
+    let reply = replay_reader::calls::answer(out, before, line, flash);
     let readers = reply.left;
     let mut left = w;
     left.fine = reply.fine;
@@ -42,9 +42,9 @@ fn on_reader(w: World, line: &[u8], flash: &[u8]) -> World {
     left
 }
 
-fn on_writer(w: World, line: &[u8], flash: &mut [u8]) -> World {
+fn on_writer(out: &mut Output, w: World, line: &[u8], flash: &mut [u8]) -> World {
     let before = w.writers;
-    let reply = replay_writer::calls::answer(before, line, w.flash_len, flash);
+    let reply = replay_writer::calls::answer(out, before, line, w.flash_len, flash);
     let writers = reply.left;
     let mut left = w;
     left.fine = reply.fine;
@@ -52,9 +52,15 @@ fn on_writer(w: World, line: &[u8], flash: &mut [u8]) -> World {
     left
 }
 
-fn on_cursor(w: World, line: &[u8], runs: &mut [u8], ends: &mut [usize]) -> World {
+fn on_cursor(
+    out: &mut Output,
+    w: World,
+    line: &[u8],
+    runs: &mut [u8],
+    ends: &mut [usize],
+) -> World {
     let before = w.cursors;
-    let reply = replay_cursor::calls::answer(before, line, runs, ends);
+    let reply = replay_cursor::calls::answer(out, before, line, runs, ends);
     let cursors = reply.left;
     let mut left = w;
     left.fine = reply.fine;
@@ -62,22 +68,29 @@ fn on_cursor(w: World, line: &[u8], runs: &mut [u8], ends: &mut [usize]) -> Worl
     left
 }
 
-fn call(w: World, line: &[u8], flash: &mut [u8], runs: &mut [u8], ends: &mut [usize]) -> World {
+fn call(
+    out: &mut Output,
+    w: World,
+    line: &[u8],
+    flash: &mut [u8],
+    runs: &mut [u8],
+    ends: &mut [usize],
+) -> World {
     let part = nth_word(line, 0);
     if same(part, b"crc") | same(part, b"flash") {
-        return on_flash(w, line, flash);
+        return on_flash(out, w, line, flash);
     }
     if same(part, b"alloc") {
-        return on_allocator(w, line);
+        return on_allocator(out, w, line);
     }
     if same(part, b"reader") | same(part, b"slot") {
-        return on_reader(w, line, part_of(flash, 0, w.flash_len));
+        return on_reader(out, w, line, part_of(flash, 0, w.flash_len));
     }
     if same(part, b"writer") {
-        return on_writer(w, line, flash);
+        return on_writer(out, w, line, flash);
     }
     if same(part, b"runs") | same(part, b"cursor") {
-        return on_cursor(w, line, runs, ends);
+        return on_cursor(out, w, line, runs, ends);
     }
     stopped(w)
 }
@@ -91,6 +104,7 @@ fn is_silent(line: &[u8]) -> bool {
 }
 
 pub(crate) fn answer(
+    out: &mut Output,
     w: World,
     line: &[u8],
     flash: &mut [u8],
@@ -103,5 +117,5 @@ pub(crate) fn answer(
     if is_silent(line) {
         return w;
     }
-    call(w, line, flash, runs, ends)
+    call(out, w, line, flash, runs, ends)
 }

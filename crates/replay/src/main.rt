@@ -7,6 +7,6 @@ mod line;
 mod lines;
 mod world;
 
-fn main() {
-    lines::answer_input();
+fn main(rt: HostRuntime) {
+    lines::answer_input(&rt);
 }

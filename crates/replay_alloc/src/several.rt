@@ -4,39 +4,39 @@ use alloc::answers::Count;
 use alloc::several::try_allocate_each;
 use digits::number::Number;
 use replay_say::word::Word;
-use replay_say::{end_line, say};
+use replay_say::{Output, end_line, say};
 use script::args::{Page, page_at};
 use types::num::min;
 
-fn say_pages(pages: &[u16]) {
+fn say_pages(out: &mut Output, pages: &[u16]) {
     let mut i: usize = 0;
     while i < pages.len() {
         let page = pages[i] as usize;
-        say(Word::Number(page));
+        say(out, Word::Number(page));
         i += 1;
     }
 }
 
 // How many pages were handed out, and each of them.
-fn say_handed(answer: Count, raws: &[u16]) {
+fn say_handed(out: &mut Output, answer: Count, raws: &[u16]) {
     match answer {
         Count::Pages(n) => {
             let end = min(raws.len(), n);
-            say(Word::Ok);
-            say(Word::Number(n));
-            say_pages(&raws[0..end]);
+            say(out, Word::Ok);
+            say(out, Word::Number(n));
+            say_pages(out, &raws[0..end]);
         }
-        Count::Refused(why) => say(Word::No(why)),
+        Count::Refused(why) => say(out, Word::No(why)),
     }
-    end_line();
+    end_line(out);
 }
 
 // Asks for a page for each place, and says what the answer was. The allocator that is left.
-pub(crate) fn allocated_each(a: Allocator, places: &mut [u16]) -> Allocator {
+pub(crate) fn allocated_each(out: &mut Output, a: Allocator, places: &mut [u16]) -> Allocator {
     let handed = try_allocate_each(a, places);
     let answer = handed.answer;
     let left = handed.allocator;
-    say_handed(answer, places);
+    say_handed(out, answer, places);
     left
 }
 

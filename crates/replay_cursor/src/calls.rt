@@ -1,16 +1,15 @@
 // Calls on the cursor.
 use crate::runs;
 use crate::state::{Reply, State, called, no_call, with_cursor};
-use check::same;
 use cursor::answers::NextAnswer;
 use cursor::place::{Cursor, Place, RunPlace};
 use digits::number::Number;
 use replay_say::word::Word;
-use replay_say::{end_line, say, say_bytes};
+use replay_say::{Output, end_line, say, say_bytes};
 use run::bound::Bound;
 use script::args::{bytes_at, number_at, number_to};
 use script::space::line_space;
-use script::words::{nth_word, word_count};
+use script::words::{nth_word, same, word_count};
 use slices::part::part_of;
 use types::answers::Outcome;
 use types::config::FILE_COUNT;
@@ -112,38 +111,38 @@ fn places_at(line: &[u8]) -> PlacesRead {
     PlacesRead { fine: true, places }
 }
 
-fn say_place(place: Place) {
+fn say_place(out: &mut Output, place: Place) {
     match place {
-        Place::Gone => say(Word::Gone),
-        Place::At(at) => say(Word::Number(at)),
+        Place::Gone => say(out, Word::Gone),
+        Place::At(at) => say(out, Word::Number(at)),
     }
 }
 
-fn show(cursor: Cursor) {
+fn show(out: &mut Output, cursor: Cursor) {
     let places = cursor.places;
-    say(Word::Ok);
+    say(out, Word::Ok);
     let mut i: usize = 0;
     while i < FILE_COUNT {
         let p = places[i];
         let place = p.place;
-        say_place(place);
+        say_place(out, place);
         i += 1;
     }
-    end_line();
+    end_line(out);
 }
 
-fn forge(w: State, line: &[u8]) -> Reply {
+fn forge(out: &mut Output, w: State, line: &[u8]) -> Reply {
     let read = places_at(line);
     if !read.fine {
         return no_call(w);
     }
-    say(Word::Ok);
-    end_line();
+    say(out, Word::Ok);
+    end_line(out);
     let places = read.places;
     with_cursor(w, Cursor { places })
 }
 
-fn new(w: State, line: &[u8], runs: &[u8], ends: &[usize]) -> Reply {
+fn new(out: &mut Output, w: State, line: &[u8], runs: &[u8], ends: &[usize]) -> Reply {
     let mut key = line_space();
     let BoundRead::Is(bound, n) = bound_at(line, 2, 3, &mut key) else {
         return no_call(w);
@@ -151,25 +150,25 @@ fn new(w: State, line: &[u8], runs: &[u8], ends: &[usize]) -> Reply {
     let made = Cursor::new(runs, ends, bound, part_of(&key, 0, n));
     let answer = made.answer;
     match answer {
-        Outcome::Done => say(Word::Ok),
-        Outcome::Refused(why) => say(Word::No(why)),
+        Outcome::Done => say(out, Word::Ok),
+        Outcome::Refused(why) => say(out, Word::No(why)),
     }
-    end_line();
+    end_line(out);
     let cursor = made.cursor;
     with_cursor(w, cursor)
 }
 
-fn say_next(answer: NextAnswer, key: &[u8], value: &[u8]) {
+fn say_next(out: &mut Output, answer: NextAnswer, key: &[u8], value: &[u8]) {
     match answer {
-        NextAnswer::End => say(Word::End),
+        NextAnswer::End => say(out, Word::End),
         NextAnswer::Entry { key_len, value_len } => {
-            say(Word::Ok);
-            say_bytes(part_of(key, 0, key_len));
-            say_bytes(part_of(value, 0, value_len));
+            say(out, Word::Ok);
+            say_bytes(out, part_of(key, 0, key_len));
+            say_bytes(out, part_of(value, 0, value_len));
         }
-        NextAnswer::Refused(why) => say(Word::No(why)),
+        NextAnswer::Refused(why) => say(out, Word::No(why)),
     }
-    end_line();
+    end_line(out);
 }
 
 fn ask_at(line: &[u8], upper: &mut [u8]) -> AskRead {
@@ -191,6 +190,7 @@ fn ask_at(line: &[u8], upper: &mut [u8]) -> AskRead {
 }
 
 fn step(
+    out: &mut Output,
     before: Cursor,
     runs: &[u8],
     ends: &[usize],
@@ -201,12 +201,13 @@ fn step(
 ) -> Cursor {
     let moved = before.next(runs, ends, bound, upper, key, value);
     let answer = moved.answer;
-    say_next(answer, key, value);
+    say_next(out, answer, key, value);
     moved.cursor
 }
 
 // A step with as much of the buffers as was asked for.
 fn step_within(
+    out: &mut Output,
     before: Cursor,
     runs: &[u8],
     ends: &[usize],
@@ -219,6 +220,7 @@ fn step_within(
     let key_end = min(ask.key_room, key.len());
     let value_end = min(ask.value_room, value.len());
     step(
+        out,
         before,
         runs,
         ends,
@@ -229,7 +231,7 @@ fn step_within(
     )
 }
 
-fn next(w: State, line: &[u8], runs: &[u8], ends: &[usize]) -> Reply {
+fn next(out: &mut Output, w: State, line: &[u8], runs: &[u8], ends: &[usize]) -> Reply {
     let mut upper = line_space();
     let mut key = line_space();
     let mut value = line_space();
@@ -238,7 +240,9 @@ fn next(w: State, line: &[u8], runs: &[u8], ends: &[usize]) -> Reply {
     };
     let before = w.cursor;
     let bound_key = part_of(&upper, 0, ask.upper_len);
-    let cursor = step_within(before, runs, ends, ask, bound_key, &mut key, &mut value);
+    let cursor = step_within(
+        out, before, runs, ends, ask, bound_key, &mut key, &mut value,
+    );
     with_cursor(w, cursor)
 }
 
@@ -248,38 +252,44 @@ fn first_ends(ends: &[usize], count: usize) -> &[usize] {
 }
 
 // Calls that look at the runs, which are lent as they are.
-fn over_runs(w: State, line: &[u8], runs: &[u8], ends: &[usize]) -> Reply {
+fn over_runs(out: &mut Output, w: State, line: &[u8], runs: &[u8], ends: &[usize]) -> Reply {
     let name = nth_word(line, 1);
     let words = word_count(line);
     if same(name, b"new") & (words == 4) {
-        return new(w, line, runs, ends);
+        return new(out, w, line, runs, ends);
     }
     if same(name, b"next") & (words == 6) {
-        return next(w, line, runs, ends);
+        return next(out, w, line, runs, ends);
     }
     no_call(w)
 }
 
-fn on_cursor(w: State, line: &[u8], runs: &[u8], ends: &[usize]) -> Reply {
+fn on_cursor(out: &mut Output, w: State, line: &[u8], runs: &[u8], ends: &[usize]) -> Reply {
     let name = nth_word(line, 1);
     let words = word_count(line);
     if same(name, b"forge") & (words == 2 + FILE_COUNT) {
-        return forge(w, line);
+        return forge(out, w, line);
     }
     if same(name, b"state") & (words == 2) {
         let cursor = w.cursor;
-        show(cursor);
+        show(out, cursor);
         return called(w);
     }
     let len = w.runs_len;
     let count = w.ends_len;
-    over_runs(w, line, part_of(runs, 0, len), first_ends(ends, count))
+    over_runs(out, w, line, part_of(runs, 0, len), first_ends(ends, count))
 }
 
 // Answers a line that starts with `runs` or `cursor`. The runs and their ends stand at the start of two buffers.
-pub fn answer(w: State, line: &[u8], runs: &mut [u8], ends: &mut [usize]) -> Reply {
+pub fn answer(
+    out: &mut Output,
+    w: State,
+    line: &[u8],
+    runs: &mut [u8],
+    ends: &mut [usize],
+) -> Reply {
     if same(nth_word(line, 0), b"runs") {
-        return runs::answer(w, line, runs, ends);
+        return runs::answer(out, w, line, runs, ends);
     }
-    on_cursor(w, line, runs, ends)
+    on_cursor(out, w, line, runs, ends)
 }

@@ -1,18 +1,17 @@
 // Calls on the runs themselves.
 use crate::state::{Reply, State, called, no_call, with_runs};
-use check::same;
 use digits::number::Number;
 use replay_say::word::Word;
-use replay_say::{end_line, say};
+use replay_say::{Output, end_line, say};
 use script::args::{bytes_at, number_at};
 use script::space::line_space;
-use script::words::{nth_word, word_count};
+use script::words::{nth_word, same, word_count};
 use slices::part::{part_of, put};
 use types::num::{min, minus};
 
-fn ready(w: State) -> Reply {
-    say(Word::Ok);
-    end_line();
+fn ready(out: &mut Output, w: State) -> Reply {
+    say(out, Word::Ok);
+    end_line(out);
     called(w)
 }
 
@@ -23,7 +22,7 @@ fn put_at(buffer: &mut [u8], at: usize, bytes: &[u8]) {
     }
 }
 
-fn add_bytes(w: State, line: &[u8], runs: &mut [u8]) -> Reply {
+fn add_bytes(out: &mut Output, w: State, line: &[u8], runs: &mut [u8]) -> Reply {
     let mut bytes = line_space();
     let Number::Value(n) = bytes_at(line, 2, &mut bytes) else {
         return no_call(w);
@@ -34,10 +33,10 @@ fn add_bytes(w: State, line: &[u8], runs: &mut [u8]) -> Reply {
     }
     put_at(runs, from, part_of(&bytes, 0, n));
     let ends = w.ends_len;
-    ready(with_runs(w, from + n, ends))
+    ready(out, with_runs(w, from + n, ends))
 }
 
-fn add_end(w: State, line: &[u8], ends: &mut [usize]) -> Reply {
+fn add_end(out: &mut Output, w: State, line: &[u8], ends: &mut [usize]) -> Reply {
     let Number::Value(end) = number_at(line, 2) else {
         return no_call(w);
     };
@@ -47,10 +46,10 @@ fn add_end(w: State, line: &[u8], ends: &mut [usize]) -> Reply {
     }
     ends[count] = end;
     let bytes = w.runs_len;
-    ready(with_runs(w, bytes, count + 1))
+    ready(out, with_runs(w, bytes, count + 1))
 }
 
-fn poke(w: State, line: &[u8], runs: &mut [u8]) -> Reply {
+fn poke(out: &mut Output, w: State, line: &[u8], runs: &mut [u8]) -> Reply {
     let mut bytes = line_space();
     let Number::Value(at) = number_at(line, 2) else {
         return no_call(w);
@@ -66,23 +65,29 @@ fn poke(w: State, line: &[u8], runs: &mut [u8]) -> Reply {
         return no_call(w);
     }
     put_at(runs, at, part_of(&bytes, 0, n));
-    ready(w)
+    ready(out, w)
 }
 
-pub(crate) fn answer(w: State, line: &[u8], runs: &mut [u8], ends: &mut [usize]) -> Reply {
+pub(crate) fn answer(
+    out: &mut Output,
+    w: State,
+    line: &[u8],
+    runs: &mut [u8],
+    ends: &mut [usize],
+) -> Reply {
     let name = nth_word(line, 1);
     let words = word_count(line);
     if same(name, b"new") & (words == 2) {
-        return ready(with_runs(w, 0, 0));
+        return ready(out, with_runs(w, 0, 0));
     }
     if same(name, b"bytes") & (words == 3) {
-        return add_bytes(w, line, runs);
+        return add_bytes(out, w, line, runs);
     }
     if same(name, b"end") & (words == 3) {
-        return add_end(w, line, ends);
+        return add_end(out, w, line, ends);
     }
     if same(name, b"poke") & (words == 4) {
-        return poke(w, line, runs);
+        return poke(out, w, line, runs);
     }
     no_call(w)
 }

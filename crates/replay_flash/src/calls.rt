@@ -1,13 +1,12 @@
 // Calls on the flash itself, which is a buffer's first bytes. A line that goes past its end is no call.
 use crate::sums;
-use check::same;
 use crc::crc32;
 use digits::number::Number;
 use replay_say::word::Word;
-use replay_say::{end_line, say, say_bytes};
+use replay_say::{Output, end_line, say, say_bytes};
 use script::args::{bytes_at, number_at};
 use script::space::line_space;
-use script::words::{nth_word, word_count};
+use script::words::{nth_word, same, word_count};
 use slices::part::{part_of, put, wipe};
 use types::config::{ERASE_VALUE, PAGE_SIZE};
 use types::num::{min, minus};
@@ -71,34 +70,34 @@ fn wipe_at(flash: &mut [u8], at: usize, count: usize, value: u8) {
 }
 
 // A new flash of `length` bytes, all erased.
-fn made(len: usize, flash: &mut [u8], length: usize) -> Reply {
+fn made(out: &mut Output, len: usize, flash: &mut [u8], length: usize) -> Reply {
     if flash.len() < length {
         return no_call(len);
     }
     wipe_at(flash, 0, length, ERASE_VALUE);
-    say(Word::Ok);
-    end_line();
+    say(out, Word::Ok);
+    end_line(out);
     called(length)
 }
 
-fn pages(len: usize, line: &[u8], flash: &mut [u8]) -> Reply {
+fn pages(out: &mut Output, len: usize, line: &[u8], flash: &mut [u8]) -> Reply {
     let Number::Value(count) = number_at(line, 2) else {
         return no_call(len);
     };
     let Number::Value(length) = place(count, 0) else {
         return no_call(len);
     };
-    made(len, flash, length)
+    made(out, len, flash, length)
 }
 
-fn bytes(len: usize, line: &[u8], flash: &mut [u8]) -> Reply {
+fn bytes(out: &mut Output, len: usize, line: &[u8], flash: &mut [u8]) -> Reply {
     let Number::Value(length) = number_at(line, 2) else {
         return no_call(len);
     };
-    made(len, flash, length)
+    made(out, len, flash, length)
 }
 
-fn poke(len: usize, line: &[u8], flash: &mut [u8]) -> Reply {
+fn poke(out: &mut Output, len: usize, line: &[u8], flash: &mut [u8]) -> Reply {
     let mut bytes = line_space();
     let Number::Value(at) = place_in(line) else {
         return no_call(len);
@@ -110,12 +109,12 @@ fn poke(len: usize, line: &[u8], flash: &mut [u8]) -> Reply {
         return no_call(len);
     }
     put_at(flash, at, part_of(&bytes, 0, n));
-    say(Word::Ok);
-    end_line();
+    say(out, Word::Ok);
+    end_line(out);
     called(len)
 }
 
-fn fill(len: usize, line: &[u8], flash: &mut [u8]) -> Reply {
+fn fill(out: &mut Output, len: usize, line: &[u8], flash: &mut [u8]) -> Reply {
     let mut value = [0; 1];
     let Number::Value(at) = place_in(line) else {
         return no_call(len);
@@ -130,12 +129,12 @@ fn fill(len: usize, line: &[u8], flash: &mut [u8]) -> Reply {
         return no_call(len);
     }
     wipe_at(flash, at, count, value[0]);
-    say(Word::Ok);
-    end_line();
+    say(out, Word::Ok);
+    end_line(out);
     called(len)
 }
 
-fn dump(len: usize, line: &[u8], flash: &[u8]) -> Reply {
+fn dump(out: &mut Output, len: usize, line: &[u8], flash: &[u8]) -> Reply {
     let Number::Value(at) = place_in(line) else {
         return no_call(len);
     };
@@ -145,13 +144,13 @@ fn dump(len: usize, line: &[u8], flash: &[u8]) -> Reply {
     if (PAGE_SIZE < count) | !fits(len, at, count) {
         return no_call(len);
     }
-    say(Word::Ok);
-    say_bytes(part_of(flash, at, count));
-    end_line();
+    say(out, Word::Ok);
+    say_bytes(out, part_of(flash, at, count));
+    end_line(out);
     called(len)
 }
 
-fn sum(len: usize, line: &[u8], flash: &[u8]) -> Reply {
+fn sum(out: &mut Output, len: usize, line: &[u8], flash: &[u8]) -> Reply {
     let Number::Value(page) = number_at(line, 2) else {
         return no_call(len);
     };
@@ -161,40 +160,40 @@ fn sum(len: usize, line: &[u8], flash: &[u8]) -> Reply {
     if !fits(len, at, PAGE_SIZE) {
         return no_call(len);
     }
-    say(Word::Ok);
-    say(Word::Sum(crc32(part_of(flash, at, PAGE_SIZE))));
-    end_line();
+    say(out, Word::Ok);
+    say(out, Word::Sum(crc32(part_of(flash, at, PAGE_SIZE))));
+    end_line(out);
     called(len)
 }
 
-fn on_flash(len: usize, line: &[u8], flash: &mut [u8]) -> Reply {
+fn on_flash(out: &mut Output, len: usize, line: &[u8], flash: &mut [u8]) -> Reply {
     let name = nth_word(line, 1);
     let words = word_count(line);
     if same(name, b"pages") & (words == 3) {
-        return pages(len, line, flash);
+        return pages(out, len, line, flash);
     }
     if same(name, b"bytes") & (words == 3) {
-        return bytes(len, line, flash);
+        return bytes(out, len, line, flash);
     }
     if same(name, b"poke") & (words == 5) {
-        return poke(len, line, flash);
+        return poke(out, len, line, flash);
     }
     if same(name, b"fill") & (words == 6) {
-        return fill(len, line, flash);
+        return fill(out, len, line, flash);
     }
     if same(name, b"dump") & (words == 5) {
-        return dump(len, line, flash);
+        return dump(out, len, line, flash);
     }
     if same(name, b"sum") & (words == 3) {
-        return sum(len, line, flash);
+        return sum(out, len, line, flash);
     }
     no_call(len)
 }
 
 // Answers a line that starts with `flash` or `crc`, on a flash of `len` bytes at the start of a buffer.
-pub fn answer(len: usize, line: &[u8], flash: &mut [u8]) -> Reply {
+pub fn answer(out: &mut Output, len: usize, line: &[u8], flash: &mut [u8]) -> Reply {
     if same(nth_word(line, 0), b"crc") {
-        return sums::answer(len, line);
+        return sums::answer(out, len, line);
     }
-    on_flash(len, line, flash)
+    on_flash(out, len, line, flash)
 }

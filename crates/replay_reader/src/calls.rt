@@ -2,17 +2,16 @@
 use crate::slots;
 use crate::slots::{Fields, fields_at, say_fields};
 use crate::state::{Reply, State, called, no_call, with_reader};
-use check::same;
 use digits::number::{Number, Word32};
 use reader::answers::{Count, EndTest, Opening, Passage};
 use reader::dehydrated::DehydratedPageReader;
 use reader::header;
 use reader::page_reader::PageReader;
 use replay_say::word::Word;
-use replay_say::{end_line, say, say_bytes};
+use replay_say::{Output, end_line, say, say_bytes};
 use script::args::{Page, magic_at, number_at, page_at};
 use script::space::line_space;
-use script::words::{nth_word, word_count};
+use script::words::{nth_word, same, word_count};
 use slices::part::part_of;
 use types::answers::{Outcome, PageOf};
 use types::config::MAX_HEADER_SIZE;
@@ -77,15 +76,15 @@ fn reader_of(d: DehydratedPageReader) -> PageReader {
 }
 
 // The higher header, or the refusal.
-fn say_header(answer: Outcome, header: &[u8]) {
+fn say_header(out: &mut Output, answer: Outcome, header: &[u8]) {
     match answer {
         Outcome::Done => {
-            say(Word::Ok);
-            say_bytes(header);
+            say(out, Word::Ok);
+            say_bytes(out, header);
         }
-        Outcome::Refused(why) => say(Word::No(why)),
+        Outcome::Refused(why) => say(out, Word::No(why)),
     }
-    end_line();
+    end_line(out);
 }
 
 fn open_into(r: PageReader, flash: &[u8], named: Named, header: &mut [u8]) -> Opening {
@@ -94,7 +93,7 @@ fn open_into(r: PageReader, flash: &[u8], named: Named, header: &mut [u8]) -> Op
     r.open(flash, named.magic, page, &mut header[0..n])
 }
 
-fn open(w: State, line: &[u8], flash: &[u8]) -> Reply {
+fn open(out: &mut Output, w: State, line: &[u8], flash: &[u8]) -> Reply {
     let mut header = [0; HEADER_ROOM];
     let Name::Is(named) = name_in(line) else {
         return no_call(w);
@@ -102,7 +101,7 @@ fn open(w: State, line: &[u8], flash: &[u8]) -> Reply {
     let r = w.reader;
     let opening = open_into(r, flash, named, &mut header);
     let answer = opening.answer;
-    say_header(answer, part_of(&header, 0, named.h));
+    say_header(out, answer, part_of(&header, 0, named.h));
     let reader = opening.reader;
     with_reader(w, reader)
 }
@@ -113,13 +112,13 @@ fn header_into(flash: &[u8], named: Named, header: &mut [u8]) -> Outcome {
     header::read_header(flash, named.magic, page, &mut header[0..n])
 }
 
-fn read_header(w: State, line: &[u8], flash: &[u8]) -> Reply {
+fn read_header(out: &mut Output, w: State, line: &[u8], flash: &[u8]) -> Reply {
     let mut header = [0; HEADER_ROOM];
     let Name::Is(named) = name_in(line) else {
         return no_call(w);
     };
     let answer = header_into(flash, named, &mut header);
-    say_header(answer, part_of(&header, 0, named.h));
+    say_header(out, answer, part_of(&header, 0, named.h));
     called(w)
 }
 
@@ -128,7 +127,7 @@ fn read_into(r: PageReader, flash: &[u8], room: usize, buffer: &mut [u8]) -> Pas
     r.read(flash, &mut buffer[0..n])
 }
 
-fn read(w: State, line: &[u8], flash: &[u8]) -> Reply {
+fn read(out: &mut Output, w: State, line: &[u8], flash: &[u8]) -> Reply {
     let mut buffer = line_space();
     let Number::Value(room) = number_at(line, 2) else {
         return no_call(w);
@@ -141,17 +140,17 @@ fn read(w: State, line: &[u8], flash: &[u8]) -> Reply {
     let answer = passage.answer;
     match answer {
         Count::Bytes(n) => {
-            say(Word::Ok);
-            say_bytes(part_of(&buffer, 0, n));
+            say(out, Word::Ok);
+            say_bytes(out, part_of(&buffer, 0, n));
         }
-        Count::Refused(why) => say(Word::No(why)),
+        Count::Refused(why) => say(out, Word::No(why)),
     }
-    end_line();
+    end_line(out);
     let reader = passage.reader;
     with_reader(w, reader)
 }
 
-fn skip(w: State, line: &[u8], flash: &[u8]) -> Reply {
+fn skip(out: &mut Output, w: State, line: &[u8], flash: &[u8]) -> Reply {
     let Number::Value(count) = number_at(line, 2) else {
         return no_call(w);
     };
@@ -160,121 +159,121 @@ fn skip(w: State, line: &[u8], flash: &[u8]) -> Reply {
     let answer = passage.answer;
     match answer {
         Count::Bytes(n) => {
-            say(Word::Ok);
-            say(Word::Number(n));
+            say(out, Word::Ok);
+            say(out, Word::Number(n));
         }
-        Count::Refused(why) => say(Word::No(why)),
+        Count::Refused(why) => say(out, Word::No(why)),
     }
-    end_line();
+    end_line(out);
     let reader = passage.reader;
     with_reader(w, reader)
 }
 
-fn is_at_eof(w: State, flash: &[u8]) -> Reply {
+fn is_at_eof(out: &mut Output, w: State, flash: &[u8]) -> Reply {
     let r = w.reader;
     let tested = r.is_at_eof(flash);
     let answer = tested.answer;
     match answer {
         EndTest::AtEnd => {
-            say(Word::Ok);
-            say(Word::Number(1));
+            say(out, Word::Ok);
+            say(out, Word::Number(1));
         }
         EndTest::More => {
-            say(Word::Ok);
-            say(Word::Number(0));
+            say(out, Word::Ok);
+            say(out, Word::Number(0));
         }
-        EndTest::Refused(why) => say(Word::No(why)),
+        EndTest::Refused(why) => say(out, Word::No(why)),
     }
-    end_line();
+    end_line(out);
     let reader = tested.reader;
     with_reader(w, reader)
 }
 
-fn page_id(w: State) -> Reply {
+fn page_id(out: &mut Output, w: State) -> Reply {
     let r = w.reader;
     match r.page_id() {
         PageOf::Page(page) => {
-            say(Word::Ok);
-            say(Word::Number(page.index()));
+            say(out, Word::Ok);
+            say(out, Word::Number(page.index()));
         }
-        PageOf::Refused(why) => say(Word::No(why)),
+        PageOf::Refused(why) => say(out, Word::No(why)),
     }
-    end_line();
+    end_line(out);
     called(w)
 }
 
-fn forge(w: State, line: &[u8]) -> Reply {
+fn forge(out: &mut Output, w: State, line: &[u8]) -> Reply {
     let Fields::Are(fields) = fields_at(line, 2) else {
         return no_call(w);
     };
-    say(Word::Ok);
-    end_line();
+    say(out, Word::Ok);
+    end_line(out);
     with_reader(w, reader_of(fields))
 }
 
 // Calls of two words.
-fn short(w: State, name: &[u8], flash: &[u8]) -> Reply {
+fn short(out: &mut Output, w: State, name: &[u8], flash: &[u8]) -> Reply {
     if same(name, b"new") {
-        say(Word::Ok);
-        end_line();
+        say(out, Word::Ok);
+        end_line(out);
         return with_reader(w, PageReader::new());
     }
     if same(name, b"is_at_eof") {
-        return is_at_eof(w, flash);
+        return is_at_eof(out, w, flash);
     }
     if same(name, b"page_id") {
-        return page_id(w);
+        return page_id(out, w);
     }
     if same(name, b"state") {
         let r = w.reader;
-        say_fields(kept_of(r));
+        say_fields(out, kept_of(r));
         return called(w);
     }
     no_call(w)
 }
 
 // Calls of three words.
-fn middle(w: State, name: &[u8], line: &[u8], flash: &[u8]) -> Reply {
+fn middle(out: &mut Output, w: State, name: &[u8], line: &[u8], flash: &[u8]) -> Reply {
     if same(name, b"read") {
-        return read(w, line, flash);
+        return read(out, w, line, flash);
     }
     if same(name, b"skip") {
-        return skip(w, line, flash);
+        return skip(out, w, line, flash);
     }
     if same(name, b"dehydrate") {
-        return slots::dehydrate(w, line);
+        return slots::dehydrate(out, w, line);
     }
     if same(name, b"rehydrate_from") {
-        return slots::rehydrate_from(w, line, flash);
+        return slots::rehydrate_from(out, w, line, flash);
     }
     no_call(w)
 }
 
-fn of_reader(w: State, line: &[u8], flash: &[u8]) -> Reply {
+fn of_reader(out: &mut Output, w: State, line: &[u8], flash: &[u8]) -> Reply {
     let name = nth_word(line, 1);
     let words = word_count(line);
     if words == 2 {
-        return short(w, name, flash);
+        return short(out, w, name, flash);
     }
     if words == 3 {
-        return middle(w, name, line, flash);
+        return middle(out, w, name, line, flash);
     }
     if same(name, b"open") & (words == 5) {
-        return open(w, line, flash);
+        return open(out, w, line, flash);
     }
     if same(name, b"read_header") & (words == 5) {
-        return read_header(w, line, flash);
+        return read_header(out, w, line, flash);
     }
     if same(name, b"forge") & (words == 8) {
-        return forge(w, line);
+        return forge(out, w, line);
     }
     no_call(w)
 }
 
 // Answers a line that starts with `reader` or `slot`.
-pub fn answer(w: State, line: &[u8], flash: &[u8]) -> Reply {
+pub fn answer(out: &mut Output, w: State, line: &[u8], flash: &[u8]) -> Reply {
     if same(nth_word(line, 0), b"slot") {
-        return slots::answer(w, line);
+        return slots::answer(out, w, line);
     }
-    of_reader(w, line, flash)
+    of_reader(out, w, line, flash)
 }

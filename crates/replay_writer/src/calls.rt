@@ -1,13 +1,12 @@
 // Calls on the writer.
 use crate::state::{Reply, State, called, no_call};
 use crate::stores::{Call, say_done};
-use check::same;
 use digits::number::{Number, Word32};
 use replay_say::word::Word;
-use replay_say::{end_line, say, say_bytes};
+use replay_say::{Output, end_line, say, say_bytes};
 use script::args::{Flag, Page, bytes_at, flag_at, magic_at, number_at, page_at, word32_at};
 use script::space::line_space;
-use script::words::{nth_word, word_count};
+use script::words::{nth_word, same, word_count};
 use slices::part::part_of;
 use types::answers::{Outcome, PageOf};
 use types::config::ALIGN;
@@ -19,32 +18,32 @@ fn left_with(writer: PageWriter, left: usize) -> Reply {
     called(State { writer, left })
 }
 
-fn new_writer(w: State) -> Reply {
-    say(Word::Ok);
-    end_line();
+fn new_writer(out: &mut Output, w: State) -> Reply {
+    say(out, Word::Ok);
+    end_line(out);
     left_with(PageWriter::new(), w.left)
 }
 
-fn left(w: State, line: &[u8]) -> Reply {
+fn left(out: &mut Output, w: State, line: &[u8]) -> Reply {
     let Number::Value(n) = number_at(line, 2) else {
         return no_call(w);
     };
-    say(Word::Ok);
-    end_line();
+    say(out, Word::Ok);
+    end_line(out);
     let writer = w.writer;
     left_with(writer, n)
 }
 
 // An opening makes no operation.
-fn opened(change: Ended) -> Reply {
-    say_ended(change);
-    say(Word::Number(0));
-    end_line();
+fn opened(out: &mut Output, change: Ended) -> Reply {
+    say_ended(out, change);
+    say(out, Word::Number(0));
+    end_line(out);
     let writer = change.writer;
     left_with(writer, change.left)
 }
 
-fn open(w: State, line: &[u8], flash: &[u8]) -> Reply {
+fn open(out: &mut Output, w: State, line: &[u8], flash: &[u8]) -> Reply {
     let Page::Number(page) = page_at(line, 2) else {
         return no_call(w);
     };
@@ -52,10 +51,10 @@ fn open(w: State, line: &[u8], flash: &[u8]) -> Reply {
         return no_call(w);
     };
     let writer = w.writer;
-    opened(writer.open(flash, page, h, w.left))
+    opened(out, writer.open(flash, page, h, w.left))
 }
 
-fn open_append(w: State, line: &[u8], flash: &[u8]) -> Reply {
+fn open_append(out: &mut Output, w: State, line: &[u8], flash: &[u8]) -> Reply {
     let Page::Number(page) = page_at(line, 2) else {
         return no_call(w);
     };
@@ -63,10 +62,10 @@ fn open_append(w: State, line: &[u8], flash: &[u8]) -> Reply {
         return no_call(w);
     };
     let writer = w.writer;
-    opened(writer.open_append(flash, page, h, w.left))
+    opened(out, writer.open_append(flash, page, h, w.left))
 }
 
-fn write(w: State, line: &[u8], flash: &mut [u8]) -> Reply {
+fn write(out: &mut Output, w: State, line: &[u8], flash: &mut [u8]) -> Reply {
     let mut space = line_space();
     let Number::Value(n) = bytes_at(line, 2, &mut space) else {
         return no_call(w);
@@ -77,38 +76,52 @@ fn write(w: State, line: &[u8], flash: &mut [u8]) -> Reply {
     let answer = wrote.answer;
     match answer {
         Taking::Took(taken) => {
-            say(Word::Ok);
-            say(Word::Number(taken));
+            say(out, Word::Ok);
+            say(out, Word::Number(taken));
         }
-        Taking::Refused(why) => say(Word::No(why)),
+        Taking::Refused(why) => say(out, Word::No(why)),
     }
-    say(Word::Number(wrote.left));
-    say_done(Call::Write, writer, flash, bytes, minus(w.left, wrote.left));
-    end_line();
+    say(out, Word::Number(wrote.left));
+    say_done(
+        out,
+        Call::Write,
+        writer,
+        flash,
+        bytes,
+        minus(w.left, wrote.left),
+    );
+    end_line(out);
     let next = wrote.writer;
     left_with(next, wrote.left)
 }
 
-fn say_ended(ended: Ended) {
+fn say_ended(out: &mut Output, ended: Ended) {
     let answer = ended.answer;
     match answer {
-        Outcome::Done => say(Word::Ok),
-        Outcome::Refused(why) => say(Word::No(why)),
+        Outcome::Done => say(out, Word::Ok),
+        Outcome::Refused(why) => say(out, Word::No(why)),
     }
-    say(Word::Number(ended.left));
+    say(out, Word::Number(ended.left));
 }
 
-fn commit(w: State, flash: &mut [u8]) -> Reply {
+fn commit(out: &mut Output, w: State, flash: &mut [u8]) -> Reply {
     let writer = w.writer;
     let ended = writer.commit(flash, w.left);
-    say_ended(ended);
-    say_done(Call::Commit, writer, flash, b"", minus(w.left, ended.left));
-    end_line();
+    say_ended(out, ended);
+    say_done(
+        out,
+        Call::Commit,
+        writer,
+        flash,
+        b"",
+        minus(w.left, ended.left),
+    );
+    end_line(out);
     let next = ended.writer;
     left_with(next, ended.left)
 }
 
-fn write_header(w: State, line: &[u8], flash: &mut [u8]) -> Reply {
+fn write_header(out: &mut Output, w: State, line: &[u8], flash: &mut [u8]) -> Reply {
     let mut space = line_space();
     let Word32::Word(magic) = magic_at(line, 2) else {
         return no_call(w);
@@ -119,46 +132,47 @@ fn write_header(w: State, line: &[u8], flash: &mut [u8]) -> Reply {
     let bytes = part_of(&space, 0, n);
     let writer = w.writer;
     let ended = writer.write_header(flash, magic, bytes, w.left);
-    say_ended(ended);
+    say_ended(out, ended);
     say_done(
+        out,
         Call::WriteHeader(magic),
         writer,
         flash,
         bytes,
         minus(w.left, ended.left),
     );
-    end_line();
+    end_line(out);
     let next = ended.writer;
     left_with(next, ended.left)
 }
 
-fn len(w: State) -> Reply {
+fn len(out: &mut Output, w: State) -> Reply {
     let writer = w.writer;
     match writer.len() {
         Length::Bytes(n) => {
-            say(Word::Ok);
-            say(Word::Number(n));
+            say(out, Word::Ok);
+            say(out, Word::Number(n));
         }
-        Length::Refused(why) => say(Word::No(why)),
+        Length::Refused(why) => say(out, Word::No(why)),
     }
-    end_line();
+    end_line(out);
     called(w)
 }
 
-fn page_id(w: State) -> Reply {
+fn page_id(out: &mut Output, w: State) -> Reply {
     let writer = w.writer;
     match writer.page_id() {
         PageOf::Page(page) => {
-            say(Word::Ok);
-            say(Word::Number(page.index()));
+            say(out, Word::Ok);
+            say(out, Word::Number(page.index()));
         }
-        PageOf::Refused(why) => say(Word::No(why)),
+        PageOf::Refused(why) => say(out, Word::No(why)),
     }
-    end_line();
+    end_line(out);
     called(w)
 }
 
-fn forge(w: State, line: &[u8]) -> Reply {
+fn forge(out: &mut Output, w: State, line: &[u8]) -> Reply {
     let mut buf = [0; ALIGN];
     let Page::Number(page) = page_at(line, 2) else {
         return no_call(w);
@@ -187,8 +201,8 @@ fn forge(w: State, line: &[u8]) -> Reply {
     let Number::Value(pending) = number_at(line, 9) else {
         return no_call(w);
     };
-    say(Word::Ok);
-    end_line();
+    say(out, Word::Ok);
+    end_line(out);
     let writer = PageWriter {
         page,
         h,
@@ -202,76 +216,76 @@ fn forge(w: State, line: &[u8]) -> Reply {
     left_with(writer, w.left)
 }
 
-fn say_group(group: [u8; ALIGN]) {
-    say_bytes(&group);
+fn say_group(out: &mut Output, group: [u8; ALIGN]) {
+    say_bytes(out, &group);
 }
 
-fn show(w: State) -> Reply {
+fn show(out: &mut Output, w: State) -> Reply {
     let writer = w.writer;
     let group = writer.buf;
     let page = writer.page;
-    say(Word::Ok);
-    say(Word::Number(page.index()));
-    say(Word::Number(writer.h));
-    say(Word::Number(writer.armed as usize));
-    say(Word::Sum(writer.crc));
-    say_group(group);
-    say(Word::Number(writer.total));
-    say(Word::Number(writer.offset));
-    say(Word::Number(writer.pending));
-    end_line();
+    say(out, Word::Ok);
+    say(out, Word::Number(page.index()));
+    say(out, Word::Number(writer.h));
+    say(out, Word::Number(writer.armed as usize));
+    say(out, Word::Sum(writer.crc));
+    say_group(out, group);
+    say(out, Word::Number(writer.total));
+    say(out, Word::Number(writer.offset));
+    say(out, Word::Number(writer.pending));
+    end_line(out);
     called(w)
 }
 
 // Calls that leave the flash alone.
-fn on_writer(w: State, name: &[u8], words: usize, line: &[u8]) -> Reply {
+fn on_writer(out: &mut Output, w: State, name: &[u8], words: usize, line: &[u8]) -> Reply {
     if same(name, b"left") & (words == 3) {
-        return left(w, line);
+        return left(out, w, line);
     }
     if same(name, b"forge") & (words == 10) {
-        return forge(w, line);
+        return forge(out, w, line);
     }
     if words != 2 {
         return no_call(w);
     }
     if same(name, b"new") {
-        return new_writer(w);
+        return new_writer(out, w);
     }
     if same(name, b"len") {
-        return len(w);
+        return len(out, w);
     }
     if same(name, b"page_id") {
-        return page_id(w);
+        return page_id(out, w);
     }
     if same(name, b"state") {
-        return show(w);
+        return show(out, w);
     }
     no_call(w)
 }
 
-fn on_flash(w: State, line: &[u8], flash: &mut [u8]) -> Reply {
+fn on_flash(out: &mut Output, w: State, line: &[u8], flash: &mut [u8]) -> Reply {
     let name = nth_word(line, 1);
     let words = word_count(line);
     if same(name, b"open") & (words == 4) {
-        return open(w, line, flash);
+        return open(out, w, line, flash);
     }
     if same(name, b"open_append") & (words == 4) {
-        return open_append(w, line, flash);
+        return open_append(out, w, line, flash);
     }
     if same(name, b"write") & (words == 3) {
-        return write(w, line, flash);
+        return write(out, w, line, flash);
     }
     if same(name, b"commit") & (words == 2) {
-        return commit(w, flash);
+        return commit(out, w, flash);
     }
     if same(name, b"write_header") & (words == 4) {
-        return write_header(w, line, flash);
+        return write_header(out, w, line, flash);
     }
-    on_writer(w, name, words, line)
+    on_writer(out, w, name, words, line)
 }
 
 // Answers a line that starts with `writer`, on a flash of `len` bytes at the start of a buffer.
-pub fn answer(w: State, line: &[u8], len: usize, flash: &mut [u8]) -> Reply {
+pub fn answer(out: &mut Output, w: State, line: &[u8], len: usize, flash: &mut [u8]) -> Reply {
     let n = min(len, flash.len());
-    on_flash(w, line, &mut flash[..n])
+    on_flash(out, w, line, &mut flash[..n])
 }

@@ -4,7 +4,7 @@
 use flash::geometry::page_of;
 use flash::ops::{erase_if, store_if};
 use replay_say::word::Word;
-use replay_say::{say, say_bytes};
+use replay_say::{Output, say, say_bytes};
 use script::space::page_space;
 use slices::part::{part_of, put};
 use types::num::{min, minus};
@@ -85,30 +85,48 @@ fn changed_on(
 }
 
 // Says the k-th store.
-fn say_store(call: Call, writer: PageWriter, flash: &mut [u8], bytes: &[u8], k: usize) {
+fn say_store(
+    out: &mut Output,
+    call: Call,
+    writer: PageWriter,
+    flash: &mut [u8],
+    bytes: &[u8],
+    k: usize,
+) {
     let a = changed_on(0x00, call, writer, flash, bytes, k);
     let b = changed_on(0xFF, call, writer, flash, bytes, k);
     let from = min(a.from, b.from);
     let end = if a.end < b.end { b.end } else { a.end };
-    say(Word::Store);
-    say(Word::Number(from));
-    say_bytes(part_of(page_of(flash, writer.page), from, minus(end, from)));
+    say(out, Word::Store);
+    say(out, Word::Number(from));
+    say_bytes(
+        out,
+        part_of(page_of(flash, writer.page), from, minus(end, from)),
+    );
 }
 
-fn say_stores(call: Call, writer: PageWriter, flash: &mut [u8], bytes: &[u8], count: usize) {
+fn say_stores(
+    out: &mut Output,
+    call: Call,
+    writer: PageWriter,
+    flash: &mut [u8],
+    bytes: &[u8],
+    count: usize,
+) {
     for i in 0..count {
-        say_store(call, writer, flash, bytes, i + 1);
+        say_store(out, call, writer, flash, bytes, i + 1);
     }
 }
 
-fn say_erase(due: bool) {
+fn say_erase(out: &mut Output, due: bool) {
     if due {
-        say(Word::Erase);
+        say(out, Word::Erase);
     }
 }
 
 // Says how many operations a call of this writer made, and which: an armed erase is the first. The flash is as before in the end.
 pub(crate) fn say_done(
+    out: &mut Output,
     call: Call,
     writer: PageWriter,
     flash: &mut [u8],
@@ -119,8 +137,8 @@ pub(crate) fn say_done(
     let erases = min(count, writer.armed as usize);
     let mut kept = page_space();
     put(&mut kept, page_of(flash, page));
-    say(Word::Number(count));
-    say_erase(erases != 0);
-    say_stores(call, writer, flash, bytes, minus(count, erases));
+    say(out, Word::Number(count));
+    say_erase(out, erases != 0);
+    say_stores(out, call, writer, flash, bytes, minus(count, erases));
     put_page(flash, page, &kept);
 }

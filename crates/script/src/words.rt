@@ -1,11 +1,18 @@
 // Lines and words: a line ends at a newline, a word at a space.
-ghost use Rattle.std.specs.Prelude.{◌≡◌};
+ghost use Rattle.std.specs.Prelude.{◌≡◌, ◌↔◌, IsTrue};
 ghost use Rattle.script.specs.Words.{end_from, nth_word, word_count};
 
 use slices::part::part_of;
 use types::num::{min, minus};
 
 const SPACE: u8 = b' ';
+
+// Whether two words are the same bytes.
+pub fn same(a: &[u8], b: &[u8]) -> bool
+    ensures equal { IsTrue result ↔ (a.now ≡ b.now) }
+{
+    a == b
+}
 
 // The index of the first such byte at or after an index. Where there is none: the text's end, or the index if that is past it.
 pub fn end_from(text: &[u8], from: usize, byte: u8) -> usize

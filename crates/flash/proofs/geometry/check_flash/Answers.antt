@@ -1,4 +1,3 @@
-use borrow.Author.Rules.{rules}
 use Rattle.flash.proofs.geometry.check_flash.Goals as goal
 
 pub returns-then-bytes : goal.returns-then-bytes

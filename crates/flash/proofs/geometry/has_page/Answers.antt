@@ -1,4 +1,3 @@
-use borrow.Author.Rules.{rules}
 use Rattle.flash.proofs.geometry.has_page.Goals as goal
 
 pub returns : goal.returns

@@ -1,7 +1,6 @@
 use mathlib.Core.Path.{ap, ◌∙◌}
 use Prim.Native.Nat.{ℕ}
 use Rattle.flash.specs.Geometry.{page_from}
-use borrow.Author.Rules.{rules}
 use Rattle.flash.proofs.geometry.page_of.Goals as goal
 
 pub returns : goal.returns

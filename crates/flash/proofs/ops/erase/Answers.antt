@@ -2,14 +2,13 @@
 use mathlib.Core.Path.{◌∙◌}
 use Rattle.flash.specs.Geometry.{page_start}
 use Rattle.flash.proofs.LentLaws.{erase-lent}
-use borrow.Author.Rules.{rules}
 use Rattle.flash.proofs.ops.erase.Goals as goal
 
 pub returns : goal.returns
 returns c =
-  record {
-    bytes =
-      let a = c.args in
-      erase-lent a.value (page_start a.page.0) c.min-start.result c.min-end.result a.flash.now c.wipe.new.0
-      (c.min-start.ensures.answers ∙ rw c.page_start.ensures.answers) c.min-end.ensures.answers c.wipe.ensures.bytes;
-  }
+    record {
+      bytes =
+          let a = c.args in
+          erase-lent a.value (page_start a.page.0) c.min-start.result c.min-end.result a.flash.now c.wipe.new.part
+          (c.min-start.ensures.answers ∙ rw c.page_start.ensures.answers) c.min-end.ensures.answers c.wipe.ensures.bytes;
+    }
