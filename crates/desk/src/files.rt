@@ -1,4 +1,6 @@
 // Files, read one behind the other into one buffer.
+ghost use Rattle.std.specs.Prelude.{◌≤◌, length};
+
 use crate::arguments::ARGUMENT_ROOM;
 use crate::say::{fail, wrong};
 use slices::part::part_of;
@@ -71,13 +73,7 @@ fn open(rt: &HostRuntime, name: &[u8]) -> io::Result<File> {
 }
 
 // The same for the file of a name; - is standard input.
-fn read_named(
-    rt: &HostRuntime,
-    program: &[u8],
-    name: &[u8],
-    room: &mut [u8],
-    at: usize,
-) -> Filled {
+fn read_named(rt: &HostRuntime, program: &[u8], name: &[u8], room: &mut [u8], at: usize) -> Filled {
     if is_dash(name) {
         let mut input = rt.stdin();
         return fill(rt, program, &mut input, b"standard input", room, at);
@@ -92,13 +88,7 @@ fn read_named(
 }
 
 // The same for the file that argument i names.
-pub fn read_file(
-    rt: &HostRuntime,
-    program: &[u8],
-    i: usize,
-    room: &mut [u8],
-    at: usize,
-) -> Filled {
+pub fn read_file(rt: &HostRuntime, program: &[u8], i: usize, room: &mut [u8], at: usize) -> Filled {
     let mut name = [0; ARGUMENT_ROOM];
     match rt.arg(i, &mut name) {
         Ok(n) => read_named(rt, program, &name[..n], room, at),

@@ -9,5 +9,8 @@ mod say;
 fn main(rt: HostRuntime) {
     pages::tour(&rt);
     // a=1, b deleted, c=23, and then two bytes that are no record.
-    records::tour(&rt, b"HV\x00\x01\x01\x00a1HV\x01\x01\x00\x00bHV\x00\x01\x02\x00c23HV");
+    records::tour(
+        &rt,
+        b"HV\x00\x01\x01\x00a1HV\x01\x01\x00\x00bHV\x00\x01\x02\x00c23HV",
+    );
 }

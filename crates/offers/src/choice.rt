@@ -107,19 +107,19 @@ impl Choice {
     }
 
     fn with_flag(mut self, rt: &HostRuntime, word: &[u8]) -> Choice {
-        if word == b"--count" {
+        if word == b"--count".as_slice() {
             self.only_count = true;
             return self;
         }
-        if word == b"--why" {
+        if word == b"--why".as_slice() {
             self.why = true;
             return self;
         }
-        if word == b"--utf8" {
+        if word == b"--utf8".as_slice() {
             self.utf8 = true;
             return self;
         }
-        if (word == b"--help") | (word == b"-h") {
+        if (word == b"--help".as_slice()) | (word == b"-h".as_slice()) {
             self.helps = true;
             return self;
         }
@@ -127,16 +127,16 @@ impl Choice {
     }
 
     fn with_option(self, rt: &HostRuntime, i: usize, word: &[u8]) -> Choice {
-        if word == b"--from" {
+        if word == b"--from".as_slice() {
             return self.with_lower(rt, true, i, word);
         }
-        if word == b"--after" {
+        if word == b"--after".as_slice() {
             return self.with_lower(rt, false, i, word);
         }
-        if word == b"--to" {
+        if word == b"--to".as_slice() {
             return self.with_upper(rt, true, i, word);
         }
-        if word == b"--before" {
+        if word == b"--before".as_slice() {
             return self.with_upper(rt, false, i, word);
         }
         self.with_flag(rt, word)

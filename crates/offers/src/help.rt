@@ -23,7 +23,10 @@ pub(crate) fn say(rt: &HostRuntime) {
         rt,
         b"one a line: key, tab, value. Bytes outside printable ASCII are \\xNN and a backslash is \\\\, in KEY too.\n",
     );
-    line(rt, b"RUN is a file, or - for standard input; all together have up to 1114112 bytes.\n");
+    line(
+        rt,
+        b"RUN is a file, or - for standard input; all together have up to 1114112 bytes.\n",
+    );
     line(
         rt,
         b"--from and --to take KEY in, --after and --before leave it out; --count prints only how many there are.\n",
@@ -40,9 +43,9 @@ pub(crate) fn say(rt: &HostRuntime) {
         rt,
         b"that starts with \\refused, and \\failed stands in place of one that could not be made. No entry's line\n",
     );
-    if let Err(why) =
-        rt.write_all(b"starts so. A script has to look for these lines: the exit status is 0 either way.\n")
-    {
+    if let Err(why) = rt.write_all(
+        b"starts so. A script has to look for these lines: the exit status is 0 either way.\n",
+    ) {
         say::output_failed(rt, b"offers", &why);
     }
 }

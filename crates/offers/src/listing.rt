@@ -63,25 +63,13 @@ fn say_refused(rt: &HostRuntime, c: Choice, why: Refusal, spot: Spot) {
 }
 
 // A line, but for the name of the run that decided and the line's end where they follow.
-fn print_entry(
-    rt: &HostRuntime,
-    key: &[u8],
-    value: &[u8],
-    utf8: bool,
-    last: u8,
-) -> io::Result<()> {
+fn print_entry(rt: &HostRuntime, key: &[u8], value: &[u8], utf8: bool, last: u8) -> io::Result<()> {
     let mut out = entry_space();
     let n = line_of(key, value, utf8, last, &mut out);
     rt.write_all(part_of(&out, 0, n))
 }
 
-fn print(
-    rt: &HostRuntime,
-    c: Choice,
-    key: &[u8],
-    value: &[u8],
-    decided: usize,
-) -> io::Result<()> {
+fn print(rt: &HostRuntime, c: Choice, key: &[u8], value: &[u8], decided: usize) -> io::Result<()> {
     if !c.why {
         return print_entry(rt, key, value, c.utf8, b'\n');
     }
@@ -216,12 +204,7 @@ fn list_between(
 }
 
 // Lists, or says what is wrong with a bound and answers false.
-pub(crate) fn list(
-    rt: &HostRuntime,
-    c: Choice,
-    runs: &[u8],
-    ends: [usize; FILE_COUNT],
-) -> bool {
+pub(crate) fn list(rt: &HostRuntime, c: Choice, runs: &[u8], ends: [usize; FILE_COUNT]) -> bool {
     let mut lower = [0; ARGUMENT_ROOM];
     let mut upper = [0; ARGUMENT_ROOM];
     let Key::Bytes(m) = key_after(rt, c.lower_at, &mut lower) else {

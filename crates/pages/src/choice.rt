@@ -59,11 +59,11 @@ impl Choice {
     }
 
     fn with_option(mut self, rt: &HostRuntime, word: &[u8]) -> Choice {
-        if word == b"--chunks" {
+        if word == b"--chunks".as_slice() {
             self.chunks = true;
             return self;
         }
-        if (word == b"--help") | (word == b"-h") {
+        if (word == b"--help".as_slice()) | (word == b"-h".as_slice()) {
             self.helps = true;
             return self;
         }

@@ -40,9 +40,9 @@ pub(crate) fn say(rt: &HostRuntime) {
         rt,
         b"said on standard error. A script has to look for these lines: the exit status is 0 either way.\n",
     );
-    if let Err(why) =
-        rt.write_all(b"The bytes of a page are printed alone: there a refusal is said on standard error only.\n")
-    {
+    if let Err(why) = rt.write_all(
+        b"The bytes of a page are printed alone: there a refusal is said on standard error only.\n",
+    ) {
         say::output_failed(rt, b"pages", &why);
     }
 }

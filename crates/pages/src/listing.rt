@@ -131,13 +131,7 @@ fn say_each(
     Ok(())
 }
 
-fn say_pages(
-    rt: &HostRuntime,
-    flash: &[u8],
-    magic: u32,
-    h: usize,
-    chunks: bool,
-) -> io::Result<()> {
+fn say_pages(rt: &HostRuntime, flash: &[u8], magic: u32, h: usize, chunks: bool) -> io::Result<()> {
     let count = min(flash.len() / PAGE_SIZE, MAX_PAGE_COUNT);
     let m = magics_of(flash, magic, count);
     if m.any & !m.mixed {

@@ -1,5 +1,4 @@
 use Rattle.alloc.specs.Checks.{count_check}
-use borrow.Author.Rules.{rules}
 use Rattle.alloc.proofs.checks.check_count.Goals as goal
 
 pub returns-then-count : goal.returns-then-count

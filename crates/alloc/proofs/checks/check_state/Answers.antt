@@ -1,6 +1,5 @@
 use mathlib.Core.Path.{sym, ◌∙◌}
 use Rattle.alloc.specs.Checks.{state_check}
-use borrow.Author.Rules.{rules}
 use Rattle.alloc.proofs.checks.check_state.Goals as goal
 
 pub returns-then-in_range : goal.returns-then-in_range

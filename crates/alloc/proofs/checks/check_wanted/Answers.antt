@@ -1,6 +1,5 @@
 use borrow.Author.Tests.{le-leb, lt-leb}
 use Rattle.alloc.specs.Checks.{state_check, wanted_check}
-use borrow.Author.Rules.{rules}
 use Rattle.alloc.proofs.checks.check_wanted.Goals as goal
 
 pub returns-then-wanted-gt-MAX_PAGE_COUNT : goal.returns-then-wanted-gt-MAX_PAGE_COUNT

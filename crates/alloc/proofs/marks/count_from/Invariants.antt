@@ -1,13 +1,8 @@
 -- `alloc::marks::count_from`: what is counted so far and what is left make the whole count. Assumes nothing.
 use mathlib.Core.Path.{◌≡◌}
 use Prim.Native.Nat.{◌+◌, ◌-◌, ◌*◌, ◌≤◌}
-use native.Mathlib.Omega.{arith}
-use lib.Count.{ones, ones-le}
-use lib.ListN.{drop, length, get_or}
-use mir.Syntax.{w8}
-use mir.Val.{Fits}
+use lib.ListN.{drop}
 use Rattle.alloc.specs.Marks.{marks_of, count_of}
-use Rattle.alloc.proofs.CountLaws.{count-one, count-end}
 use Rattle.alloc.proofs.marks.count_from.Given as goal
 
 abbrev pub invariant-loop-i : goal.invariant-loop-i

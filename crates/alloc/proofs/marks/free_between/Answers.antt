@@ -1,12 +1,8 @@
 -- `alloc::marks::free_between`: what is left to look at has the same first free page as the whole. Assumes nothing.
-use mathlib.Core.Path.{◌≡◌, refl, sym, ◌∙◌}
-use Prim.Native.Nat.{◌-◌}
+use mathlib.Core.Path.{refl, sym, ◌∙◌}
 use native.Mathlib.Numerals.{add-one}
-use native.Mathlib.Omega.{arith}
 use Rattle.alloc.specs.Marks.{marks_of}
-use Rattle.alloc.specs.Search.{up_from, first_free}
 use Rattle.alloc.proofs.SearchLaws.{search-end, search-free, search-used, search-byte, bit-free, bit-used}
-use borrow.Author.Rules.{rules}
 use Rattle.alloc.proofs.marks.free_between.Goals as goal
 
 pub loop-i-init : goal.loop-i-init
@@ -18,13 +14,13 @@ loop-i-preserved-then-byte c =
 
 pub returns-then-byte-i-eq0 : goal.returns-then-byte-i-eq0
 returns-then-byte-i-eq0 c =
-  record {
-    answers =
-      let bs = c.args.pages.now in
-      let i = c.loop-i.i in
-      sym (search-free (marks_of bs) i c.args.to c.loop-i-test.true (bit-free bs i c.if-byte-i-eq0.true))
-      ∙ c.loop-i.invariant;
-  }
+    record {
+      answers =
+          let bs = c.args.pages.now in
+          let i = c.loop-i.i in
+          sym (search-free (marks_of bs) i c.args.to c.loop-i-test.true (bit-free bs i c.if-byte-i-eq0.true))
+          ∙ c.loop-i.invariant;
+    }
 
 pub loop-i-preserved : goal.loop-i-preserved
 loop-i-preserved c =

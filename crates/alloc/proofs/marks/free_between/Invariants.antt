@@ -1,11 +1,8 @@
 -- `alloc::marks::free_between`: what is left to look at has the same first free page as the whole. Assumes nothing.
-use mathlib.Core.Path.{◌≡◌, refl, sym, ◌∙◌}
+use mathlib.Core.Path.{◌≡◌}
 use Prim.Native.Nat.{◌-◌}
-use native.Mathlib.Numerals.{add-one}
-use native.Mathlib.Omega.{arith}
 use Rattle.alloc.specs.Marks.{marks_of}
 use Rattle.alloc.specs.Search.{up_from, first_free}
-use Rattle.alloc.proofs.SearchLaws.{search-end, search-free, search-used, search-byte, bit-free, bit-used}
 use Rattle.alloc.proofs.marks.free_between.Given as goal
 
 abbrev pub invariant-loop-i : goal.invariant-loop-i

@@ -1,6 +1,5 @@
 use mathlib.Core.Path.{sym}
 use Rattle.alloc.proofs.MarksLaws.{mark-is}
-use borrow.Author.Rules.{rules}
 use Rattle.alloc.proofs.marks.is_marked.Goals as goal
 
 pub returns : goal.returns

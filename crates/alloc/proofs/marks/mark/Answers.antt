@@ -4,7 +4,6 @@ use mir.Syntax.{w8}
 use mir.Val.{Fits}
 use Rattle.alloc.specs.Marks.{marking}
 use Rattle.alloc.proofs.MarksLaws.{shifted, mark-fits}
-use borrow.Author.Rules.{rules}
 use Rattle.alloc.proofs.marks.mark.Goals as goal
 
 pub overflow_add-pages : goal.overflow_add-pages

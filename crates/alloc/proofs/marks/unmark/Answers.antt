@@ -1,6 +1,5 @@
 use Rattle.alloc.specs.Marks.{freeing}
 use Rattle.alloc.proofs.MarksLaws.{shifted, mark-there}
-use borrow.Author.Rules.{rules}
 use Rattle.alloc.proofs.marks.unmark.Goals as goal
 
 pub overflow_sub-pages : goal.overflow_sub-pages

@@ -1,80 +1,82 @@
 use mathlib.Core.Path.{◌≡◌, sym, ◌∙◌}
 use mathlib.Core.Bool.{false}
-use Prim.Native.Nat.{◌-◌, ◌<◌}
+use Prim.Native.Nat.{◌<◌}
 use native.Mathlib.Omega.{arith}
-use lib.ListN.{length, length-set}
+use lib.ListN.{length-set}
 use Rattle.types.specs.declared.page_id.MaybePageID.TheVariants.{Some}
 use Rattle.types.specs.declared.refusal.Verdict.TheVariants.{Fine}
 use Rattle.alloc.specs.Calls.{next_free}
 use Rattle.alloc.specs.Checks.{state_check}
 use Rattle.alloc.specs.Marks.{is_marked}
-use Rattle.alloc.specs.declared.allocator.Allocator.{Allocator}
 use Rattle.alloc.proofs.HandedLaws.{found-free}
-use Rattle.alloc.proofs.SeveralLaws.{state_of, Handing, hand-begun, hand_on, no-page, no_place, refused-each}
+use Rattle.alloc.proofs.SeveralLaws.{state_of, hand-begun, hand_on, no-page, no_place, refused-each}
 use Rattle.alloc.proofs.StateLaws.{InRange, fine-state, used_le, next_le}
 use borrow.Author.Rules.{rules}
 use Rattle.alloc.proofs.several.try_allocate_each.Goals as goal
 
 pub returns-in-Refused : goal.returns-in-Refused
-returns-in-Refused c = -- LOOK: several clauses answers, bytes
-   refused-each _ _ _ (sym c.check_state.ensures.answers ∙ c.in-Refused.is)
+returns-in-Refused c =
+    let refused = refused-each c.args.a c.args.places.now c.in-Refused.why (sym c.check_state.ensures.answers ∙ c.in-Refused.is) in
+    record { answers = refused.0; bytes = refused.1 }
 
 pub loop-i-init : goal.loop-i-init
 loop-i-init c =
-  let fine : state_check c.args.a ≡ Fine = sym c.check_state.ensures.answers ∙ c.in_default.is in
-  hand-begun _ _ (search rules, fine-state _ (fine))
+    let fine : state_check c.args.a ≡ Fine = sym c.check_state.ensures.answers ∙ c.in_default.is in
+    hand-begun _ _ (search rules, fine-state _ fine)
 
 pub first_free-requires : goal.first_free-requires
-first_free-requires c = -- LOOK: several clauses pages_len, next_le_max_page_count, count_le_max_page_count
-  
-  let known : InRange ((state_of c.args.a.page_count c.loop-i.pages c.loop-i.used c.loop-i.next)) = c.loop-i.invariant.sound.1 in
-  (search rules, omega (arith, next_le ((state_of c.args.a.page_count c.loop-i.pages c.loop-i.used c.loop-i.next)) (known), (known).few))
+first_free-requires c =
+    let this = state_of c.args.a.page_count c.loop-i.pages c.loop-i.used c.loop-i.next in
+    let known : InRange this = c.loop-i.invariant.sound.1 in
+    record {
+      pages_len = search rules;
+      next_le_max_page_count = omega (arith, next_le this known, known.few);
+      count_le_max_page_count = known.few;
+    }
 
 pub shape_of-places-in_default-first_free : goal.shape_of-places-in_default-first_free
 shape_of-places-in_default-first_free c = c.loop-i.invariant.long
 
 pub returns-in_default-first_free : goal.returns-in_default-first_free
 returns-in_default-first_free c =
-  let fine : state_check c.args.a ≡ Fine = sym c.check_state.ensures.answers ∙ c.in_default.is in
-  let end = no-page _ _ _ _ _ c.loop-i.invariant (fine) (sym c.first_free.ensures.answers ∙ c.in_default-first_free.is) in
-  record {
-    answers = c.handed.ensures.answers ∙ end.0;
-    bytes = end.1;
-  }
+    let fine : state_check c.args.a ≡ Fine = sym c.check_state.ensures.answers ∙ c.in_default.is in
+    let end = no-page _ _ _ _ _ c.loop-i.invariant fine (sym c.first_free.ensures.answers ∙ c.in_default-first_free.is) in
+    record {
+      answers = c.handed.ensures.answers ∙ end.0;
+      bytes = end.1;
+    }
 
 pub mark-requires : goal.mark-requires
 mark-requires c =
-  let known : InRange ((state_of c.args.a.page_count c.loop-i.pages c.loop-i.used c.loop-i.next)) = c.loop-i.invariant.sound.1 in
-  let page-found : next_free ((state_of c.args.a.page_count c.loop-i.pages c.loop-i.used c.loop-i.next)) ≡ Some c.in-Some.page = sym c.first_free.ensures.answers ∙ c.in-Some.is in
-  let free-here : (c.index-p.result < ((state_of c.args.a.page_count c.loop-i.pages c.loop-i.used c.loop-i.next)).page_count) × (is_marked ((state_of c.args.a.page_count c.loop-i.pages c.loop-i.used c.loop-i.next)).pages c.index-p.result ≡ false) =
-    found-free ((state_of c.args.a.page_count c.loop-i.pages c.loop-i.used c.loop-i.next)) c.in-Some.page c.index-p.result (known) (page-found) c.index-p.ensures.answers in
-  record {
-    pages_len = search rules;
-    page_lt_max_page_count = omega (arith, (free-here).0, (known).few);
-    page_value = (free-here).1;
-  }
+    let this = state_of c.args.a.page_count c.loop-i.pages c.loop-i.used c.loop-i.next in
+    let known : InRange this = c.loop-i.invariant.sound.1 in
+    let page-found : next_free this ≡ Some c.in-Some.page = sym c.first_free.ensures.answers ∙ c.in-Some.is in
+    let free-here : (c.index-p.result < this.page_count) × (is_marked this.pages c.index-p.result ≡ false) =
+    found-free this c.in-Some.page c.index-p.result known page-found c.index-p.ensures.answers in
+    record {
+      pages_len = search rules;
+      page_lt_max_page_count = omega (arith, free-here.0, known.few);
+      page_value = free-here.1;
+    }
 
 pub overflow_add-used : goal.overflow_add-used
 overflow_add-used c =
-  let known : InRange ((state_of c.args.a.page_count c.loop-i.pages c.loop-i.used c.loop-i.next)) = c.loop-i.invariant.sound.1 in
-  omega (
-      arith,
-      used_le ((state_of c.args.a.page_count c.loop-i.pages c.loop-i.used c.loop-i.next)) (known),
-      (known
-          c).few,
-    )
+    let this = state_of c.args.a.page_count c.loop-i.pages c.loop-i.used c.loop-i.next in
+    let known : InRange this = c.loop-i.invariant.sound.1 in
+    omega (arith, used_le this known, known.few)
 
 pub page_past-next-requires : goal.page_past-next-requires
 page_past-next-requires c =
-  let known : InRange ((state_of c.args.a.page_count c.loop-i.pages c.loop-i.used c.loop-i.next)) = c.loop-i.invariant.sound.1 in
-  let page-found : next_free ((state_of c.args.a.page_count c.loop-i.pages c.loop-i.used c.loop-i.next)) ≡ Some c.in-Some.page = sym c.first_free.ensures.answers ∙ c.in-Some.is in
-  let free-here : (c.index-p.result < ((state_of c.args.a.page_count c.loop-i.pages c.loop-i.used c.loop-i.next)).page_count) × (is_marked ((state_of c.args.a.page_count c.loop-i.pages c.loop-i.used c.loop-i.next)).pages c.index-p.result ≡ false) =
-    found-free ((state_of c.args.a.page_count c.loop-i.pages c.loop-i.used c.loop-i.next)) c.in-Some.page c.index-p.result (known) (page-found) c.index-p.ensures.answers in
-  (free-here).0
+    let this = state_of c.args.a.page_count c.loop-i.pages c.loop-i.used c.loop-i.next in
+    let known : InRange this = c.loop-i.invariant.sound.1 in
+    let page-found : next_free this ≡ Some c.in-Some.page = sym c.first_free.ensures.answers ∙ c.in-Some.is in
+    let free-here : (c.index-p.result < this.page_count) × (is_marked this.pages c.index-p.result ≡ false) =
+    found-free this c.in-Some.page c.index-p.result known page-found c.index-p.ensures.answers in
+    free-here.0
 
 pub offset_bounds-places-i : goal.offset_bounds-places-i
 offset_bounds-places-i c =
-    omega (arith, c.well-formed, c.loop-i.invariant.long, c.loop-i-test.true)
+    omega (arith, c.well_formed, c.loop-i.invariant.long, c.loop-i-test.true)
 
 pub bounds-places-i : goal.bounds-places-i
 bounds-places-i c =
@@ -82,7 +84,7 @@ bounds-places-i c =
 
 pub overflow_add-i : goal.overflow_add-i
 overflow_add-i c =
-    omega (arith, c.well-formed, c.loop-i.invariant.long, c.loop-i-test.true)
+    omega (arith, c.well_formed, c.loop-i.invariant.long, c.loop-i-test.true)
 
 pub loop-i-smaller : goal.loop-i-smaller
 loop-i-smaller c =
@@ -90,8 +92,9 @@ loop-i-smaller c =
 
 pub loop-i-preserved : goal.loop-i-preserved
 loop-i-preserved c =
-  let page-found : next_free ((state_of c.args.a.page_count c.loop-i.pages c.loop-i.used c.loop-i.next)) ≡ Some c.in-Some.page = sym c.first_free.ensures.answers ∙ c.in-Some.is in
-  hand_on _ _ _ _ _ c.loop-i.invariant _ _ _ _ c.loop-i-test.true (page-found)
+    let this = state_of c.args.a.page_count c.loop-i.pages c.loop-i.used c.loop-i.next in
+    let page-found : next_free this ≡ Some c.in-Some.page = sym c.first_free.ensures.answers ∙ c.in-Some.is in
+    hand_on _ _ _ _ _ c.loop-i.invariant _ _ _ _ c.loop-i-test.true page-found
     c.index-p.ensures.answers c.mark.ensures.bytes c.page_past-next.ensures.answers
 
 pub shape_of-places : goal.shape_of-places
@@ -99,9 +102,9 @@ shape_of-places c = c.loop-i.invariant.long
 
 pub returns : goal.returns
 returns c =
-  let fine : state_check c.args.a ≡ Fine = sym c.check_state.ensures.answers ∙ c.in_default.is in
-  let end = no_place _ _ _ _ _ c.loop-i.invariant (fine) c.loop-i-test.false in
-  record {
-    answers = c.handed-2.ensures.answers ∙ end.0;
-    bytes = end.1;
-  }
+    let fine : state_check c.args.a ≡ Fine = sym c.check_state.ensures.answers ∙ c.in_default.is in
+    let end = no_place _ _ _ _ _ c.loop-i.invariant fine c.loop-i-test.false in
+    record {
+      answers = c.handed-2.ensures.answers ∙ end.0;
+      bytes = end.1;
+    }

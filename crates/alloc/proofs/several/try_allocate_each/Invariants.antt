@@ -1,17 +1,6 @@
-use mathlib.Core.Path.{◌≡◌, sym, ◌∙◌}
-use mathlib.Core.Bool.{false}
-use Prim.Native.Nat.{◌-◌, ◌<◌}
-use native.Mathlib.Omega.{arith}
-use lib.ListN.{length, length-set}
-use Rattle.types.specs.declared.page_id.MaybePageID.TheVariants.{Some}
-use Rattle.types.specs.declared.refusal.Verdict.TheVariants.{Fine}
-use Rattle.alloc.specs.Calls.{next_free}
-use Rattle.alloc.specs.Checks.{state_check}
-use Rattle.alloc.specs.Marks.{is_marked}
-use Rattle.alloc.specs.declared.allocator.Allocator.{Allocator}
-use Rattle.alloc.proofs.HandedLaws.{found-free}
-use Rattle.alloc.proofs.SeveralLaws.{state_of, Handing, hand-begun, hand_on, no-page, no_place, refused-each}
-use Rattle.alloc.proofs.StateLaws.{InRange, fine-state, used_le, next_le}
+use Prim.Native.Nat.{◌-◌}
+use lib.ListN.{length}
+use Rattle.alloc.proofs.SeveralLaws.{state_of, Handing}
 use Rattle.alloc.proofs.several.try_allocate_each.Given as goal
 
 abbrev pub invariant-loop-i : goal.invariant-loop-i

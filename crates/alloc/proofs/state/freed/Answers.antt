@@ -1,4 +1,3 @@
-use borrow.Author.Rules.{rules}
 use Rattle.alloc.proofs.state.freed.Goals as goal
 
 pub returns : goal.returns

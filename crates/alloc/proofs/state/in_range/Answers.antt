@@ -1,5 +1,4 @@
 use Rattle.alloc.specs.State.{in_range}
-use borrow.Author.Rules.{rules}
 use Rattle.alloc.proofs.state.in_range.Goals as goal
 
 pub returns : goal.returns

@@ -1,4 +1,3 @@
-use borrow.Author.Rules.{rules}
 use Rattle.alloc.proofs.state.moved_past.Goals as goal
 
 pub returns : goal.returns

@@ -2,7 +2,6 @@ use mathlib.Core.Path.{sym, ap, ◌∙◌}
 use Prim.Native.Nat.{ℕ, ◌%◌}
 use native.Mathlib.Nat.{mod_self, mod-eq_of_lt}
 use native.Mathlib.Omega.{arith}
-use borrow.Author.Rules.{rules}
 use Rattle.alloc.proofs.state.page_past.Goals as goal
 
 pub returns-then-next-count : goal.returns-then-next-count

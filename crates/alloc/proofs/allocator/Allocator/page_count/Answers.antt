@@ -1,6 +1,5 @@
 use mathlib.Core.Path.{sym, ◌∙◌}
 use Rattle.alloc.specs.Calls.{page_count}
-use borrow.Author.Rules.{rules}
 use Rattle.alloc.proofs.allocator.Allocator.page_count.Goals as goal
 
 pub returns-in-Fine : goal.returns-in-Fine

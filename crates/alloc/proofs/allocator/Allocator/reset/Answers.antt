@@ -4,7 +4,6 @@ use Rattle.alloc.specs.Calls.{reset}
 use Rattle.alloc.specs.Checks.{count_check}
 use Rattle.types.specs.declared.refusal.Verdict.TheVariants.{Fine}
 use Rattle.alloc.proofs.StateLaws.{fine-count}
-use borrow.Author.Rules.{rules}
 use Rattle.alloc.proofs.allocator.Allocator.reset.Goals as goal
 
 pub returns-in-Refused : goal.returns-in-Refused
@@ -13,14 +12,14 @@ returns-in-Refused c = record { answers = rw (sym c.check_count.ensures.answers 
 
 pub nonzero_rem-result : goal.nonzero_rem-result
 nonzero_rem-result c =
-  let fine : count_check c.args.count ≡ Fine = sym c.check_count.ensures.answers ∙ c.in_default.is in
-  omega (arith, fine-count c.args.count (fine))
+    let fine : count_check c.args.count ≡ Fine = sym c.check_count.ensures.answers ∙ c.in_default.is in
+    omega (arith, fine-count c.args.count fine)
 
 pub returns : goal.returns
 unfolding reset
 returns c =
-  record {
-    answers =
-    let fine : count_check c.args.count ≡ Fine = sym c.check_count.ensures.answers ∙ c.in_default.is in
-    rw (fine);
-  }
+    record {
+      answers =
+          let fine : count_check c.args.count ≡ Fine = sym c.check_count.ensures.answers ∙ c.in_default.is in
+          rw fine;
+    }

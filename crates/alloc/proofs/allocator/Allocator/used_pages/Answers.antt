@@ -1,6 +1,5 @@
 use mathlib.Core.Path.{sym, ◌∙◌}
 use Rattle.alloc.specs.Calls.{used_pages}
-use borrow.Author.Rules.{rules}
 use Rattle.alloc.proofs.allocator.Allocator.used_pages.Goals as goal
 
 pub returns-in-Fine : goal.returns-in-Fine

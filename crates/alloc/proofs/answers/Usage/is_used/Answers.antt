@@ -3,7 +3,6 @@ use lib.Dec.{eqb}
 use Rattle.types.specs.Answers.{size_or}
 use Rattle.alloc.specs.Answers.{usage_told}
 use Rattle.alloc.specs.declared.answers.Usage.{Usage}
-use borrow.Author.Rules.{rules}
 use Rattle.alloc.proofs.answers.Usage.is_used.Goals as goal
 
 pub returns-in-Used : goal.returns-in-Used
