@@ -2,10 +2,7 @@
 use mathlib.Core.Path.{◌≡◌, refl, ◌∙◌}
 use mathlib.Core.Bool.{Bool, true, false}
 use mathlib.Core.List.{List}
-use mathlib.Core.Logic.{◌⊎◌, ⊎_elim}
 use Prim.Native.Nat.{ℕ}
-use native.Mathlib.Omega.{arith}
-use denote.Enum.Declared.{tag_of}
 use Rattle.run.specs.Bounds.{is_past}
 use Rattle.run.specs.Records.{head_at, key_in}
 use Rattle.run.specs.declared.bound.Bound.{Bound}
@@ -13,7 +10,6 @@ use Rattle.keys.specs.declared.order.Ordering.{Ordering}
 use Rattle.run.specs.declared.record.Record.{Record}
 use Rattle.run.specs.declared.record.Head.{Head}
 use Rattle.run.specs.declared.record.Head.TheVariants as head
-use Rattle.run.specs.contracts.record.Head as Head'
 use Rattle.cursor.specs.Pass.{against_lowest, look_by, look_without, look_head, look_at}
 use Rattle.cursor.specs.declared.look.Look.TheVariants as look
 use Rattle.cursor.specs.declared.look.Lowest.{Lowest}
@@ -25,15 +21,15 @@ module _ (run : List ℕ) (place : Place) (bound : Bound) (upper : List ℕ) (lo
   unfolding look_at
   look-gone p = rw p
 
-  without-by : (h : Head) → (tag_of Head'.the_type h ≡ 0) ⊎ (tag_of Head'.the_type h ≡ 2)
+  without-by : (h : Head) → ((r : Record) → h ≡ head.Record r → ⊥)
       → look_without h ≡ look_head run bound upper lowest low h
   unfolding look_head
   without-by head.Nothing t = refl
-  without-by (head.Record r) t = absurd (⊎_elim (λ w. omega arith) (λ w. omega arith) t)
+  without-by (head.Record r) t = absurd (t r refl)
   without-by (head.Refused why) t = refl
 
   module _ (at : ℕ) (p : place ≡ At at) (h : Head) (e : h ≡ head_at run at) where
-    pub look-without : (tag_of Head'.the_type h ≡ 0) ⊎ (tag_of Head'.the_type h ≡ 2) → look_without h ≡ look_at run place bound upper lowest low
+    pub look-without : ((r : Record) → h ≡ head.Record r → ⊥) → look_without h ≡ look_at run place bound upper lowest low
     unfolding look_at
     look-without t = without-by h t ∙ rw (p, ← e)
 

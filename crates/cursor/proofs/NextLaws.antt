@@ -1,12 +1,9 @@
 -- What a settled pass answers: the room that an entry has, and what any other answer leaves. Assumes nothing.
 use mathlib.Core.Path.{◌≡◌, refl, ap, ap₂, ◌∙◌}
 use mathlib.Core.List.{List}
-use mathlib.Core.Logic.{◌⊎◌, ⊎_elim}
 use Prim.Native.Nat.{ℕ, ◌≤◌, ◌<◌}
-use native.Mathlib.Omega.{arith}
 use lib.ListN.{length}
 use borrow.Author.Tests.{lt-ltb, le-ltb}
-use denote.Enum.Declared.{tag_of}
 use Rattle.types.specs.declared.refusal.Refusal.{Refusal}
 use Rattle.types.specs.declared.refusal.Refusal.TheVariants.{KeyBufferTooSmall, ValueBufferTooSmall}
 use Rattle.slices.specs.Patch.{over}
@@ -20,7 +17,6 @@ use Rattle.cursor.specs.declared.answers.NextAnswer.TheVariants.{End, Entry, Ref
 use Rattle.cursor.specs.declared.look.Lowest.{Lowest}
 use Rattle.cursor.specs.declared.look.Lowest.TheVariants as low
 use Rattle.cursor.specs.declared.pass.Pass.{Pass}
-use Rattle.cursor.specs.contracts.answers.NextAnswer as NextAnswer'
 
 -- ---- the rooms
 
@@ -40,10 +36,10 @@ module _ (key_room value_room key_len value_len : ℕ) where
 
 -- ---- what an answer other than an entry leaves
 
-pub places-still : (a : NextAnswer) (p : Pass) → (tag_of NextAnswer'.the_type a ≡ 0) ⊎ (tag_of NextAnswer'.the_type a ≡ 2) → p.places ≡ places_by a p
+pub places-still : (a : NextAnswer) (p : Pass) → ((k v : ℕ) → a ≡ Entry k v → ⊥) → p.places ≡ places_by a p
 unfolding places_by
 places-still End p t = refl
-places-still (Entry k v) p t = absurd (⊎_elim (λ w. omega arith) (λ w. omega arith) t)
+places-still (Entry k v) p t = absurd (t k v refl)
 places-still (Refused why) p t = refl
 
 -- ---- a record handed out

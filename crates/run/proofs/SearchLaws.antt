@@ -1,11 +1,9 @@
 -- The search for a lower bound, head by head, and one turn of its loop. Assumes nothing.
 use mathlib.Core.Path.{◌≡◌, refl, sym, ◌∙◌}
 use mathlib.Core.List.{List}
-use mathlib.Core.Logic.{◌⊎◌, ⊎_elim}
 use Prim.Native.Nat.{ℕ, zero, suc, ◌-◌, ◌≤◌, ◌<◌}
 use native.Mathlib.Omega.{arith}
 use lib.ListN.{length}
-use denote.Enum.Declared.{tag_of}
 use Rattle.keys.specs.Keys.{compare_keys}
 use Rattle.run.specs.Records.{record_header_size, head_at, key_in}
 use Rattle.run.specs.Search.{level_at, sought_without, sought_by, sought_head, sought_from, search_in}
@@ -18,8 +16,6 @@ use Rattle.run.specs.declared.record.Head.{Head}
 use Rattle.run.specs.declared.record.Head.TheVariants as head
 use Rattle.run.specs.declared.search.Sought.{Sought}
 use Rattle.run.specs.declared.search.Sought.TheVariants.{Gone, At}
-use Rattle.run.specs.contracts.bound.Bound as Bound'
-use Rattle.run.specs.contracts.record.Head as Head'
 use Rattle.run.proofs.FitLaws.{Lies, head-lies}
 
 -- ---- what the search comes to
@@ -64,12 +60,12 @@ module _ (bound : Bound) (at next : ℕ) (later : ℕ → Sought) where
 -- ---- a turn
 
 -- a bound that there is
-pub sought-bounded : (run : List ℕ) (bound : Bound) (lower : List ℕ) → (tag_of Bound'.the_type bound ≡ 1) ⊎ (tag_of Bound'.the_type bound ≡ 2)
+pub sought-bounded : (run : List ℕ) (bound : Bound) (lower : List ℕ) → (bound ≡ Unbounded → ⊥)
     → sought_from (suc (length run)) run bound lower 0 ≡ search_in run bound lower
 unfolding search_in
-sought-bounded run Unbounded lower t = absurd (⊎_elim (λ w. omega arith) (λ w. omega arith) t)
-sought-bounded run Included lower t = refl
-sought-bounded run Excluded lower t = refl
+sought-bounded run Unbounded lower other = absurd (other refl)
+sought-bounded run Included lower other = refl
+sought-bounded run Excluded lower other = refl
 
 -- the search from a position comes to this answer, with heads enough
 abbrev pub Rest : List ℕ → Bound → List ℕ → ℕ → Sought → Type 0
@@ -84,18 +80,18 @@ module _ (run : List ℕ) (bound : Bound) (lower : List ℕ) (at : ℕ) (answer 
   turn_by zero h q = absurd (omega arith)
   turn_by (suc more) h q = (more, omega arith, q)
 
-  without-by : (h : Head) → (tag_of Head'.the_type h ≡ 0) ⊎ (tag_of Head'.the_type h ≡ 2) → (later : ℕ → Sought)
+  without-by : (h : Head) → ((r : Record) → h ≡ head.Record r → ⊥) → (later : ℕ → Sought)
       → sought_head h run bound lower at later ≡ sought_without h
   unfolding sought_head
-  without-by head.Nothing t later = refl
-  without-by (head.Record r) t later = absurd (⊎_elim (λ w. omega arith) (λ w. omega arith) t)
-  without-by (head.Refused why) t later = refl
+  without-by head.Nothing other later = refl
+  without-by (head.Record r) other later = absurd (other r refl)
+  without-by (head.Refused why) other later = refl
 
   module _ (rest : Rest run bound lower at answer) where
-    pub ends : (h : Head) → h ≡ head_at run at → (tag_of Head'.the_type h ≡ 0) ⊎ (tag_of Head'.the_type h ≡ 2) → sought_without h ≡ answer
-    ends h e t =
+    pub ends : (h : Head) → h ≡ head_at run at → ((r : Record) → h ≡ head.Record r → ⊥) → sought_without h ≡ answer
+    ends h e other =
         let turn = turn_by rest.0 rest.1 rest.2 in
-        sym (without-by h t (λ next. sought_from turn.0 run bound lower next)) ∙ rw e turn.2
+        sym (without-by h other (λ next. sought_from turn.0 run bound lower next)) ∙ rw e turn.2
 
     module _ (h : Head) (r : Record) (e : h ≡ head_at run at) (is : h ≡ head.Record r) where
       lies : Lies record_header_size run at r

@@ -1,0 +1,23 @@
+-- `cursor::pass::settled`: the passes from the places reached come to the whole. Assumes nothing.
+use mathlib.Core.Path.{refl, sym, ◌∙◌}
+use native.Mathlib.Nat.{le_refl}
+use Rattle.cursor.specs.Settle.{settled}
+use Rattle.cursor.proofs.SettleLaws as laws
+use Rattle.cursor.proofs.pass.settled.Goals as goal
+
+pub loop-bound-init : goal.loop-bound-init
+unfolding settled
+loop-bound-init c = (_, le_refl _, refl)
+
+pub returns-then-not-is_hidden : goal.returns-then-not-is_hidden
+returns-then-not-is_hidden c = record { answers = laws.settle-ends _ _ _ _ _ _ _ c.pass_over-pass.ensures.answers c.loop-bound.invariant (sym c.is_hidden.ensures.answers ∙ c.if-not-is_hidden.true) }
+
+pub loop-bound-smaller : goal.loop-bound-smaller
+loop-bound-smaller c =
+    laws.settle-less _ _ _ _ _ _ c.pass_over-pass.result c.pass_over-pass.ensures.answers c.loop-bound.invariant c.requires
+    (sym c.is_hidden.ensures.answers ∙ c.if-not-is_hidden.false)
+
+pub loop-bound-preserved : goal.loop-bound-preserved
+loop-bound-preserved c =
+    laws.settle-again _ _ _ _ _ _ c.pass_over-pass.result c.pass_over-pass.ensures.answers c.loop-bound.invariant c.requires
+    (sym c.is_hidden.ensures.answers ∙ c.if-not-is_hidden.false)
