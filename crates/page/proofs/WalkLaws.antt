@@ -6,7 +6,7 @@ use Prim.Native.Nat.{ℕ, zero, suc, ◌+◌, ◌*◌, ◌≤◌, ◌<◌}
 use native.Mathlib.Omega.{arith}
 use Rattle.types.specs.Build.{page_size, chunk_header_size}
 use Rattle.page.specs.Chunks.{chunk_at}
-use Rattle.page.specs.Walks.{Chunk, Walked, walk_after, walk, walk_from}
+use Rattle.page.specs.Walks.{Walked, walk_after, walk, walk_from}
 use Rattle.page.specs.declared.chunk.Step.{Step}
 use Rattle.page.specs.declared.chunk.Step.TheVariants as step
 use Rattle.page.specs.declared.walk.Ending.TheVariants.{EndAt, Corrupted}

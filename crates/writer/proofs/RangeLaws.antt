@@ -30,7 +30,7 @@ use Rattle.writer.specs.Outcomes.{refused_at, wrote}
 use Rattle.writer.specs.States.{first_chunk, most_pending, in_range, fresh, new_writer}
 use Rattle.writer.specs.Writes.{takes, grown, is_full, closed, taken_of, written}
 use Rattle.writer.specs.declared.answers.Ended.{Ended}
-use Rattle.types.specs.declared.answers.Outcome.TheVariants.{Done, Refused}
+use Rattle.types.specs.declared.answers.Outcome.TheVariants.{Done}
 use Rattle.writer.specs.declared.page_writer.PageWriter.{PageWriter}
 use Rattle.writer.proofs.CheckLaws.{InRange, range-known, range-in}
 use Rattle.writer.proofs.OutcomeLaws.{by-check}
