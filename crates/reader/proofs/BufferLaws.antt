@@ -27,7 +27,7 @@ use Rattle.reader.specs.Calls.{opening_of, open_page}
 use Rattle.reader.specs.Checks.{reader_check}
 use Rattle.reader.specs.Moves.{arriving, moved, ready, rest_of, past}
 use Rattle.reader.specs.States.{new_reader, unread}
-use Rattle.reader.specs.declared.moves.Arrived.TheVariants.{At, Corrupted}
+use Rattle.reader.specs.declared.moves.Arrived.TheVariants.{At}
 use Rattle.reader.specs.declared.page_reader.PageReader.{PageReader}
 use Rattle.reader.proofs.CheckLaws.{reader-checked}
 use Rattle.reader.proofs.MoveLaws.{apart, ready-ended, ready-in, ready-used, rest_in, rest_ended}

@@ -18,7 +18,7 @@ use Rattle.page.specs.declared.walk.Ending.TheVariants as ending
 use Rattle.page.proofs.ChunkLaws.{checked-end, checked-bad, checked-right, checked-wrong}
 use Rattle.page.proofs.LaidLaws.{All, Placed, walk-laid, laid-placed, walk-ends-at}
 use Rattle.page.proofs.OntoLaws.{walk-onto, payload-below}
-use Rattle.page.proofs.WalkLaws.{walk_end, walk-bad, walk-chunk}
+use Rattle.page.proofs.WalkLaws.{walk-end, walk-bad, walk-chunk}
 use Rattle.reader.specs.Finds.{Found, nothing_more, and_then, payload_of, sum_right, end_verdict, good_part, walk_finds}
 
 -- parts, and what was found after them
@@ -72,7 +72,7 @@ pub finds-step : (page : List ℕ) (o : ℕ) → walk_finds page o ≡ finds_at 
 finds-step page o = by (chunk_at page o) refl
   where
     by : (x : Step) → chunk_at page o ≡ x → walk_finds page o ≡ finds_at page o (checked_at page o)
-    by step.End e = ap (good_in page) (walk_end page o e) ∙ good_none page (ending.EndAt o) ∙ rw (checked-end page o e)
+    by step.End e = ap (good_in page) (walk-end page o e) ∙ good_none page (ending.EndAt o) ∙ rw (checked-end page o e)
     by step.Corrupted e = ap (good_in page) (walk-bad page o e) ∙ good_none page ending.Corrupted ∙ rw (checked-bad page o e)
     by (step.Chunk len crc next) e =
         let c : Chunk = record { offset = o; len = len; crc = crc } in

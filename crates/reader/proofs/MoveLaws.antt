@@ -15,7 +15,7 @@ use Rattle.page.specs.declared.chunk.Step.{Step}
 use Rattle.page.specs.declared.chunk.Step.TheVariants as step
 use Rattle.page.proofs.ChunkLaws.{chunk-found, checked-found}
 use Rattle.reader.specs.Moves.{Whole, arriving, moved, ready, rest_of}
-use Rattle.reader.specs.declared.moves.Arrived.TheVariants.{At, Corrupted}
+use Rattle.reader.specs.declared.moves.Arrived.TheVariants.{At}
 use Rattle.reader.specs.declared.page_reader.PageReader.{PageReader}
 
 -- ---- before a read
