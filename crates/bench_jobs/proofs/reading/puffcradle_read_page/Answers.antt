@@ -10,9 +10,12 @@ returns c =
     let a = c.args in
     let h = length a.header.now in
     let opened = c.open-opening in
+    let fresh = c.new.ensures.answers in
+    let opens = opened.ensures.answers in
+    let begins = c.reading_at.ensures.answers in
     record {
-      answers = page-read a.flash.now a.magic a.page h a.out.now c.new.result opened.result c.reading_at.result c.new.ensures.answers opened.ensures.answers c.reading_at.ensures.answers c.read_pieces-r.result _
+      answers = page-read a.flash.now a.magic a.page h a.out.now c.new.result opened.result c.reading_at.result fresh opens begins c.read_pieces-r.result _
           c.read_pieces-r.ensures.answers c.packed.ensures.answers;
-      header = opened.ensures.bytes ∙ ap (λ (r : PageReader). open_bytes r a.flash.now a.magic (record { 0 = a.page }) a.header.now) c.new.ensures.answers;
-      out = page-out a.flash.now a.magic a.page h a.out.now c.new.result opened.result c.reading_at.result c.new.ensures.answers opened.ensures.answers c.reading_at.ensures.answers _ c.read_pieces-r.ensures.bytes;
+      header = opened.ensures.bytes ∙ ap (λ (r : PageReader). open_bytes r a.flash.now a.magic (record { 0 = a.page }) a.header.now) fresh;
+      out = page-out a.flash.now a.magic a.page h a.out.now c.new.result opened.result c.reading_at.result fresh opens begins _ c.read_pieces-r.ensures.bytes;
     }
