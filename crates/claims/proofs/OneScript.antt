@@ -13,12 +13,13 @@ use Rattle.script.proofs.space.entry_space.Reads.{Learnt as entry-space}
 use Rattle.script.proofs.words.end_from.Reads.{Learnt as end-from}
 use Rattle.script.proofs.words.nth_word.Reads.{Learnt as nth-word}
 use Rattle.script.proofs.words.word_count.Reads.{Learnt as word-count}
+use Rattle.script.proofs.words.same.Reads.{Learnt as same}
 use Rattle.script.proofs.space.page_space.Reads.{Learnt as page-space}
 use Rattle.script.proofs.space.flash_space.Reads.{Learnt as flash-space}
 use Rattle.script.proofs.space.runs_space.Reads.{Learnt as runs-space}
 use Rattle.script.proofs.space.all_runs_space.Reads.{Learnt as all-runs-space}
 use Rattle.claims.specs.Outcomes.{OneOutcome, beside}
-use Rattle.claims.proofs.OutcomeLaws.{one, two}
+use Rattle.claims.proofs.OutcomeLaws.{decided, one, two}
 
 pub one-script-space : OneOutcome script-space (λ r e. r)
 one-script-space k a r r' e e' p q = one p.0 q.0
@@ -34,6 +35,9 @@ one-nth-word k a r r' e e' p q = one p q
 
 pub one-word-count : OneOutcome word-count (λ r e. r)
 one-word-count k a r r' e e' p q = one p q
+
+pub one-same : OneOutcome same (λ r e. r)
+one-same k a r r' e e' p q = decided r r' p q
 
 pub one-page-space : OneOutcome page-space (λ r e. r)
 one-page-space k a r r' e e' p q = one p.0 q.0
