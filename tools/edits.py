@@ -8,6 +8,8 @@ import re
 from functools import lru_cache
 from pathlib import Path
 
+# The files that a function's proof is written in.
+PROOFS = ("/Proof.antt", "/Invariants.antt", "/Answers.antt")
 HEADING = re.compile(r"# slip (\w+) in ([\w:/.]+?)(?:: (.+))?$")
 
 
@@ -216,18 +218,20 @@ def may_join(slip):
     if slip.of_function():
         return not strays(slip)
     readers = readers_of(slip.home, slip.place)
-    apart = not any(file.startswith("src/") or file.endswith("/Proof.antt") for file in readers)
+    apart = not any(file.startswith("src/") or file.endswith(PROOFS) for file in readers)
     read = any(file.startswith("proofs/") for file in readers)
     return slip.place.startswith("specs/") and apart and read and {file for file, _, _ in slip.pairs} == {slip.place}
 
 
 @lru_cache(maxsize=None)
 def uses_in(crate):
-    """The modules of a crate that each of its files names in a `use` line, by their files."""
+    """The modules of a crate that each of its files names in a `use` line or for a tactic, by their files."""
     uses = {}
     for file in [f for part in ("src", "specs", "proofs") for f in (crate / part).glob("**/*") if f.suffix in (".rt", ".antt")]:
-        lines = [line for line in file.read_text().splitlines() if line.startswith(("use ", "ghost use "))]
-        modules = re.findall(rf"Rattle·{crate.name}·(?:specs|proofs)\.([\w·.-]+)", "\n".join(lines))
+        text = file.read_text()
+        lines = [line for line in text.splitlines() if line.startswith(("use ", "ghost use "))]
+        modules = re.findall(rf"Rattle\.{crate.name}\.((?:specs|proofs)\.[\w.+-]+)", "\n".join(lines))
+        modules += [found.replace("::", ".") for found in re.findall(r"\bcrate::((?:specs|proofs)::[\w:]+)::\w+", text)]
         uses[str(file.relative_to(crate))] = {module.rstrip(".").replace(".", "/") + ".antt" for module in modules}
     return uses
 

@@ -12,12 +12,7 @@ ghost use Rattle.bench_jobs.specs.Readings.{read_page, packed_of};
 ghost use Rattle.bench_jobs.specs.Several.{alloc_each, each_places};
 ghost use Rattle.bench_jobs.specs.Writings.{write_finished, write_finished_flash, write_page};
 
-use bench_jobs::allocating;
-use bench_jobs::merging;
-use bench_jobs::reading;
-use bench_jobs::several;
-use bench_jobs::sums;
-use bench_jobs::writing;
+use bench_jobs::{allocating, merging, reading, several, sums, writing};
 
 #[unsafe(no_mangle)]
 pub extern "C" fn puffcradle_crc32(bytes: &[u8]) -> u32

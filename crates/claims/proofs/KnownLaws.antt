@@ -14,7 +14,6 @@ use Rattle.types.specs.Refusals.{number_of}
 use Rattle.types.specs.declared.page_id.PageID.{PageID}
 use Rattle.types.specs.declared.refusal.Refusal.{Refusal}
 use Rattle.types.specs.declared.refusal.Refusal.TheVariants as row
-use Rattle.types.specs.declared.refusal.Verdict.TheVariants.{Refused}
 use Rattle.flash.specs.Geometry.{page_of}
 use Rattle.page.specs.Chunks.{next_offset}
 use Rattle.page.specs.Headers.{page_header_fine}

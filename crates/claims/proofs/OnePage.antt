@@ -7,9 +7,9 @@ use Rattle.page.proofs.chunk.chunk_at.Reads.{Learnt as chunk-at}
 use Rattle.page.proofs.chunk.payload_at.Reads.{Learnt as payload-at}
 use Rattle.page.proofs.chunk.checked_at.Reads.{Learnt as checked-at}
 use Rattle.page.proofs.header.check_header.Reads.{Learnt as check-header}
-use Rattle.page.proofs.header.header_of.Reads.{Learnt as header_of}
+use Rattle.page.proofs.header.header_of.Reads.{Learnt as header-of}
 use Rattle.page.proofs.header.page_header_fine.Reads.{Learnt as page-header-fine}
-use Rattle.page.proofs.walk.walk_end.Reads.{Learnt as walk_end}
+use Rattle.page.proofs.walk.walk_end.Reads.{Learnt as walk-end}
 use Rattle.page.proofs.walk.all_erased.Reads.{Learnt as all-erased}
 use Rattle.page.proofs.chunk.Step.number.Reads.{Learnt as Step-number}
 use Rattle.page.proofs.chunk.Step.len_or.Reads.{Learnt as Step-len-or}
@@ -44,13 +44,13 @@ one-checked-at k a r r' e e' p q = one p q
 pub one-check-header : OneOutcome check-header (λ r e. r)
 one-check-header k a r r' e e' p q = one p q
 
-pub one-header-of : OneOutcome header_of (λ r e. r.now)
+pub one-header-of : OneOutcome header-of (λ r e. r.now)
 one-header-of k a r r' e e' p q = one p q
 
 pub one-page-header-fine : OneOutcome page-header-fine (λ r e. r)
 one-page-header-fine k a r r' e e' p q = one p q
 
-pub one-walk-end : OneOutcome walk_end (λ r e. r)
+pub one-walk-end : OneOutcome walk-end (λ r e. r)
 one-walk-end k a r r' e e' p q = one p q
 
 pub one-all-erased : OneOutcome all-erased (λ r e. r)

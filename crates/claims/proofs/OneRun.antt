@@ -3,7 +3,7 @@ use Rattle.run.proofs.bound.is_past.Reads.{Learnt as is-past}
 use Rattle.run.proofs.record.Head.number.Reads.{Learnt as Head-number}
 use Rattle.run.proofs.record.Record.key_in.Reads.{Learnt as Record-key-in}
 use Rattle.run.proofs.record.Record.value_in.Reads.{Learnt as Record-value-in}
-use Rattle.run.proofs.record.head_at.Reads.{Learnt as head_at}
+use Rattle.run.proofs.record.head_at.Reads.{Learnt as head-at}
 use Rattle.run.proofs.search.Sought.number.Reads.{Learnt as Sought-number}
 use Rattle.run.proofs.search.search.Reads.{Learnt as search}
 use Rattle.run.proofs.record.Head.record_or.Reads.{Learnt as Head-record-or}
@@ -23,7 +23,7 @@ one-Record-key-in k a r r' e e' p q = one p q
 pub one-Record-value-in : OneOutcome Record-value-in (λ r e. r.now)
 one-Record-value-in k a r r' e e' p q = one p q
 
-pub one-head-at : OneOutcome head_at (λ r e. r)
+pub one-head-at : OneOutcome head-at (λ r e. r)
 one-head-at k a r r' e e' p q = one p q
 
 pub one-Sought-number : OneOutcome Sought-number (λ r e. r)

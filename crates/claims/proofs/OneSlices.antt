@@ -4,7 +4,7 @@ use Rattle.slices.proofs.field.get16.Reads.{Learnt as get16}
 use Rattle.slices.proofs.field.get32.Reads.{Learnt as get32}
 use Rattle.slices.proofs.field.put16.Reads.{Learnt as put16}
 use Rattle.slices.proofs.field.put32.Reads.{Learnt as put32}
-use Rattle.slices.proofs.part.part_of.Reads.{Learnt as part_of}
+use Rattle.slices.proofs.part.part_of.Reads.{Learnt as part-of}
 use Rattle.slices.proofs.part.part_to.Reads.{Learnt as part-to}
 use Rattle.slices.proofs.part.put.Reads.{Learnt as put}
 use Rattle.slices.proofs.part.wipe.Reads.{Learnt as wipe}
@@ -26,7 +26,7 @@ one-put16 k a r r' e e' p q = one p q
 pub one-put32 : OneOutcome put32 (λ r e. r)
 one-put32 k a r r' e e' p q = one p q
 
-pub one-part-of : OneOutcome part_of (λ r e. r.now)
+pub one-part-of : OneOutcome part-of (λ r e. r.now)
 one-part-of k a r r' e e' p q = one p q
 
 pub one-part-to : OneOutcome part-to (λ r e. r.now)

@@ -42,7 +42,8 @@ unfolding bytes_of blank chunk_header page_header chunk_of_one worked_flash
 worked-shape = (refl, refl)
 
 pub worked-good : Good worked_magic 0 0 24 (page_of 0 worked_flash)
-unfolding word bytes_of bits number message among terms generator xor plus divided dividend remainder published blank chunk_header page_header chunk_of_one worked_flash page_header_fine chunk_at walk walk_from
+unfolding word bytes_of bits number message among terms generator xor plus divided dividend remainder published blank chunk_header
+    page_header chunk_of_one worked_flash page_header_fine chunk_at walk walk_from
 worked-good = record { whole = refl; length-fine = refl; header = refl; ends = refl; chunks = (record { some = omega arith; sum = refl }, tt) }
 
 -- what is found in all, by computation

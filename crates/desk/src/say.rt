@@ -52,7 +52,7 @@ fn reason(rt: &HostRuntime, why: &io::Error) {
 }
 
 // Says what failed, and why.
-pub fn fail(rt: &HostRuntime, program: &[u8], name: &[u8], why: &io::Error) {
+pub(crate) fn fail(rt: &HostRuntime, program: &[u8], name: &[u8], why: &io::Error) {
     text(rt, program);
     text(rt, b": ");
     text(rt, name);

@@ -1,17 +1,1 @@
-pub mod ByValue
-pub mod Changed
-pub mod Changing
-pub mod FromWalk
-pub mod Handed
-pub mod InPlace
-pub mod Lending
-pub mod LendingReader
-pub mod LentAllocator
-pub mod LentRun
-pub mod LentSteps
-pub mod LentTypes
-pub mod PartCall
-pub mod PartWalk
-pub mod Reading
 pub mod StepLaws
-pub mod Through

@@ -1,6 +1,6 @@
 // The list: a line for each live entry, or only how many there are.
+use crate::bound_key::{Key, key_after};
 use crate::choice::Choice;
-use crate::keys::{Key, key_after};
 use crate::line::{line_of, put_all};
 use crate::places::{Spot, decider, first_ends, last_end, next_spot, start_spot};
 use cursor::answers::NextAnswer;

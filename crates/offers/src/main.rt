@@ -2,10 +2,10 @@
 
 #![tactic(auto)]
 
+mod bound_key;
 mod choice;
 mod files;
 mod help;
-mod keys;
 mod line;
 mod listing;
 mod places;

@@ -17,7 +17,12 @@ pub loop-record-init : goal.loop-record-init
 loop-record-init c = (suc (length c.args.run.now), omega arith, laws.sought-bounded _ _ _ c.in_default.not-Unbounded)
 
 pub returns-in_default-head : goal.returns-in_default-head
-returns-in_default-head c = record { answers = c.without.ensures.answers ∙ laws.ends _ _ _ _ _ c.loop-record.invariant c.head_at-head.result c.head_at-head.ensures.answers c.in_default-head.not-Record }
+returns-in_default-head c =
+    record {
+      answers =
+          c.without.ensures.answers
+          ∙ laws.ends _ _ _ _ _ c.loop-record.invariant c.head_at-head.result c.head_at-head.ensures.answers c.in_default-head.not-Record;
+    }
 
 pub loop-record-smaller : goal.loop-record-smaller
 loop-record-smaller c =
