@@ -1,2 +1,1 @@
-pub mod ArgLaws
 pub mod WordLaws

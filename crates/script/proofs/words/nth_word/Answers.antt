@@ -1,11 +1,7 @@
 -- `script::words::nth_word`: the word sought from a later word on is the one sought. Assumes nothing.
 use mathlib.Core.Path.{◌∙◌}
-use native.Mathlib.Nat.{sub-zero}
 use Rattle.script.proofs.WordLaws.{word-turn, word-found}
 use Rattle.script.proofs.words.nth_word.Goals as goal
-
-pub loop-init : goal.loop-init
-loop-init c = rw sub-zero
 
 pub loop-preserved : goal.loop-preserved
 loop-preserved c =
