@@ -52,9 +52,9 @@ module _ (page : List ℕ) (o : ℕ) where
     chunk-over small h = chunk-marked ∙ rw (le-ltb max_chunk_size (field 2 page (o + 2)) small, lt-ltb page_size (o + 8 + field 2 page (o + 2)) h)
 
     -- a payload that is not all there
-    pub chunk-missing : field 2 page (o + 2) ≤ max_chunk_size → o + chunk_header_size + field 2 page (o + 2) ≤ page_size
+    pub chunk_missing : field 2 page (o + 2) ≤ max_chunk_size → o + chunk_header_size + field 2 page (o + 2) ≤ page_size
         → length page < o + chunk_header_size + field 2 page (o + 2) → chunk_at page o ≡ Corrupted
-    chunk-missing small fits missing =
+    chunk_missing small fits missing =
         let l = field 2 page (o + 2) in
         chunk-marked ∙ rw (le-ltb max_chunk_size l small, le-ltb page_size (o + 8 + l) fits, lt-ltb (length page) (o + 8 + l) missing)
 

@@ -103,6 +103,7 @@ pub fn chunk_header(len: u16, crc: u32) -> [u8; CHUNK_HEADER_SIZE]
 }
 
 // What stands at an offset, by the chunk's header alone.
+#[tactic(auto, using(crate::proofs::ChunkLaws::chunk_missing))]
 pub fn chunk_at(page: &[u8], at: usize) -> Step
     ensures answers { result ≡ chunk_at page.now at }
 {

@@ -2,8 +2,9 @@
 use Prim.Native.Nat.{◌+◌, ◌≤◌, ◌<◌}
 use mathlib.Core.Path.{sym, ◌∙◌}
 use native.Mathlib.Omega.{arith}
+use lib.ListN.{length}
 use Rattle.types.specs.Build.{page_size}
-use Rattle.page.proofs.ChunkLaws.{chunk-past, chunk-short, chunk-unmarked, chunk-long, chunk-over, chunk-missing, chunk_whole}
+use Rattle.page.proofs.ChunkLaws.{chunk-past, chunk-short, chunk-unmarked, chunk-long, chunk-over, chunk_missing, chunk_whole}
 use Rattle.page.proofs.chunk.chunk_at.Goals as goal
 
 pub returns-then-at : goal.returns-then-at
@@ -50,18 +51,6 @@ returns-then-end-gt-PAGE_SIZE c =
           sym (chunk-over a.page.now a.at room c.if-page-at.false mark (rw len at c.if-len-gt-MAX_CHUNK_SIZE.false) (rw len at c.if-end-gt-PAGE_SIZE.true));
     }
 
-pub returns-then-page-end : goal.returns-then-page-end
-returns-then-page-end c =
-    record {
-      answers =
-          let a = c.args in
-          let room : a.at + 8 ≤ page_size = omega arith in
-          let mark = sym c.get16.ensures.answers ∙ c.if-get16-ne-CHUNK_MAGIC.false in
-          let len = c.get16-len.ensures.answers in
-          sym (chunk-missing a.page.now a.at room c.if-page-at.false mark (rw len at c.if-len-gt-MAX_CHUNK_SIZE.false)
-          (rw len at c.if-end-gt-PAGE_SIZE.false) (rw len at c.if-page-end.true));
-    }
-
 pub returns : goal.returns
 returns c =
     record {
@@ -70,7 +59,8 @@ returns c =
           let room : a.at + 8 ≤ page_size = omega arith in
           let mark = sym c.get16.ensures.answers ∙ c.if-get16-ne-CHUNK_MAGIC.false in
           let len = c.get16-len.ensures.answers in
+          let whole : a.at + 8 + c.get16-len.result ≤ length a.page.now = omega arith in
           rw (c.align_up.ensures.answers, c.get32.ensures.answers, len)
           (sym (chunk_whole a.page.now a.at room c.if-page-at.false mark (rw len at c.if-len-gt-MAX_CHUNK_SIZE.false)
-          (rw len at c.if-end-gt-PAGE_SIZE.false) (rw len at c.if-page-end.false)));
+          (rw len at c.if-end-gt-PAGE_SIZE.false) (rw len at whole)));
     }
