@@ -1,1 +1,2 @@
+pub mod ArgLaws
 pub mod WordLaws
