@@ -10,6 +10,11 @@ from pathlib import Path
 
 # The files that a function's proof is written in.
 PROOFS = ("/Proof.antt", "/Invariants.antt", "/Answers.antt")
+# Two impls whose names would be the same: the checker tells them apart by numbers of its own, which it prints.
+NUMBERED = {
+    "From<Option<PageID>> for OptionPageID": "OptionPageIDFromImplaa49c50e",
+    "From<OptionPageID> for Option<PageID>": "OptionPageIDFromImpl75ae9c52",
+}
 HEADING = re.compile(r"# slip (\w+) in ([\w:/.]+?)(?:: (.+))?$")
 
 
@@ -99,27 +104,129 @@ def closing(text, start):
     return len(text)
 
 
+def angled(text, start):
+    """The index after the `>` that closes the `<` at start; the arrow of a function's type closes nothing."""
+    depth = 0
+    for found in re.compile(r"[-=]>|[<>]").finditer(text, start):
+        depth += (found.group() == "<") - (found.group() == ">")
+        if depth == 0:
+            return found.end()
+    return len(text)
+
+
+def apart(text, mark):
+    """The parts of a text between marks that stand in no bracket."""
+    parts, depth, at = [], 0, 0
+    for found in re.finditer(rf"[-=]>|[(\[{{<]|[)\]}}>]|{mark}", text):
+        word = found.group()
+        depth += (word in ("(", "[", "{", "<")) - (word in (")", "]", "}", ">"))
+        if depth == 0 and re.fullmatch(mark, word):
+            parts.append(text[at : found.start()])
+            at = found.end()
+    return [*parts, text[at:]]
+
+
+def parameters_of(generics):
+    """The names that a list `<..>` of type and const parameters binds, in their order; lifetimes are left out."""
+    listed = [part.strip() for part in apart(generics[1:-1], ",")]
+    return [re.match(r"(?:const\s+)?(\w+)", part).group(1) for part in listed if part and not part.startswith("'")]
+
+
+def words_of(kind, parameters):
+    """A type as the checker has it in a name: `Result<T, Refusal>` is ResultRefusal where T is a parameter, `&[u8]` RefSliceU8."""
+    kind = re.sub(r"'\w+|\b(?:dyn|mut|const)\b", "", kind)
+    names = []
+    for found in re.finditer(r"&|\[([^\[\]]*;)?|(?:\w+::)*(\w+)", kind):
+        name = found.group(2) or {"&": "Ref", "[": "Slice"}.get(found.group(), "Array")
+        kind_of_array = words_of(found.group(1), parameters) if found.group(1) else ""
+        names += [name[0].upper() + name[1:] + kind_of_array] if name not in parameters else []
+    return "".join(names)
+
+
+class Block:
+    """An `impl` or a `trait`: where it begins and ends, its parameters, its type and its trait, None where there is none, and its name, as
+    the checker prints it: the type's, and of a trait's impl the trait's behind it."""
+
+    def __init__(self, text, found):
+        at = found.end()
+        generics = text[at : angled(text, at)] if text[at : at + 1] == "<" else ""
+        self.start = text.find("{", at)
+        self.end = closing(text, self.start)
+        self.header = " ".join(text[at + len(generics) : self.start].split(" where ")[0].split())
+        self.parameters = parameters_of(generics) if generics else []
+        self.declares = found.group(1) == "trait"
+        of = apart(self.header, r"\bfor\b")
+        names = [re.findall(r"\w+", re.split(r"[<(]", part.strip(" &"))[0]) for part in of]
+        self.type = names[-1][-1] if names[-1] else of[-1].strip()
+        self.trait = names[0][-1] if len(of) == 2 else None
+        name = words_of(of[1], self.parameters) + words_of(of[0], self.parameters) if self.trait else self.type
+        self.name = NUMBERED.get(self.header, name)
+
+
+class Function:
+    """A function in a source file: the block that it stands in, where it begins, what comes before its name, its name, its type parameters, its parameters,
+    its result, its clauses as (kind, text), and where its body begins and ends; one that a trait declares may have none."""
+
+    def __init__(self, text, found, blocks):
+        self.block = next((block for block in blocks if block.start <= found.start() < block.end), None)
+        self.begin, self.before, self.name, at = found.start(), found.group(1), found.group(2), found.end()
+        generics = text[at : angled(text, at)] if text[at] == "<" else ""
+        self.type_parameters = parameters_of(generics) if generics else []
+        begin = text.index("(", at + len(generics))
+        at = closing(text, begin)
+        self.parameters = text[begin + 1 : at - 1]
+        end = result_end(text, at)
+        self.result, at, self.clauses = " ".join(text[at:end].strip().removeprefix("->").split()), end, []
+        while clause := re.compile(r"[^{};]*?\b(requires|ensures|ghost)\b[^{};]*(?={)").match(text, at):
+            at = closing(text, clause.end())
+            self.clauses.append((clause.group(1), text[clause.end() : at]))
+        body = re.compile(r"[^{};]*([{;])").match(text, at)
+        self.start = body.start(1) if body else len(text)
+        self.end = closing(text, self.start) if body and body.group(1) == "{" else self.start
+
+    def of(self):
+        """The type that it is of, as the checker prints it."""
+        return self.block.name if self.block else None
+
+
+def result_end(text, at):
+    """Where the result of a function ends, behind its parameters."""
+    depth = 0
+    for found in re.compile(r"->|[(\[<]|[)\]>]|[{;]|\b(?:requires|ensures|ghost|where)\b").finditer(text, at):
+        word = found.group()
+        if depth == 0 and word not in ("->", "(", "[", "<"):
+            return found.start()
+        depth += (word in ("(", "[", "<")) - (word in (")", "]", ">"))
+    return len(text)
+
+
+def functions(text):
+    """Each function of a source file without comments, in its order."""
+    blocks = [Block(text, found) for found in re.finditer(r"(?m)^[ \t]*(?:pub(?:\(\w+\))?\s+)?(?:unsafe\s+)?\b(impl|trait)\b[ \t]*(?=[<\w&])", text)]
+    words = r"((?:\b(?:pub(?:\(\w+\))?|const|unsafe|extern\s+\"[^\"\n]*\")\s+)*)"
+    for found in re.finditer(words + r"\bfn\s+(\w+)\s*(?=[<(])", text):
+        yield Function(text, found, blocks)
+
+
+def home_of(function, types, file):
+    """The file that a function counts to: its type's, and its own where it is of none or of a trait's impl."""
+    return types.get(function.block.type, file) if function.block and not function.block.trait else file
+
+
 @lru_cache(maxsize=None)
 def types_of(source):
-    """The file of each type of a crate."""
-    return {name: file for file in source.glob("**/*.rt") for name in re.findall(r"\b(?:struct|enum) (\w+)", blanked(file.read_text()))}
+    """The file of each type and trait of a crate."""
+    return {name: file for file in source.glob("**/*.rt") for name in re.findall(r"\b(?:struct|enum|trait) (\w+)", blanked(file.read_text()))}
 
 
 @lru_cache(maxsize=None)
 def bodies(crate, file):
     """Of each function in a source file: its name, as the checker prints it, and where its body begins and ends."""
-    source, text, found_bodies = crate / "src", blanked(file.read_text()), []
-    impls = [(i.end(), closing(text, i.end()), i.group(1)) for i in re.finditer(r"\bimpl(?:<[^>]*>)?\s+(\w+)[^{}]*(?={)", text)]
-    for found in re.finditer(r"\bfn\s+(\w+)\s*(?:<[^>]*>)?\s*(?=\()", text):
-        owner = next((name for start, end, name in impls if start <= found.start() < end), None)
-        at = closing(text, found.end())
-        clause = re.compile(r"[^{}]*?\b(?:requires|ensures|ghost)\b[^{}]*(?={)")
-        while clause.match(text, at):
-            at = closing(text, clause.match(text, at).end())
-        start = text.find("{", at)
-        home = types_of(source).get(owner, file).relative_to(source).with_suffix("").parts
-        path = [crate.name, *(part for part in home if part not in ("lib", "main")), *([owner] if owner else []), found.group(1)]
-        found_bodies.append(("::".join(path), start, closing(text, start)))
+    source, found_bodies = crate / "src", []
+    for function in functions(blanked(file.read_text())):
+        parts = home_of(function, types_of(source), file).relative_to(source).with_suffix("").parts
+        path = [crate.name, *(part for part in parts if part not in ("lib", "main")), *([function.of()] if function.of() else []), function.name]
+        found_bodies.append(("::".join(path), function.start, function.end))
     return found_bodies
 
 

@@ -1,5 +1,7 @@
 -- Marks counted byte by byte, and from a page on. Assumes nothing.
-use mathlib.Core.Path.{◌≡◌, sym, ap, ◌∙◌}
+use Rattle.std.specs.List.{sum_by}
+use Rattle.std.proofs.lemmas.List.Sums.{sum_by-cons}
+use mathlib.Core.Path.{◌≡◌, refl, sym, ap, ◌∙◌}
 use mathlib.Core.Bool.{◌&&◌}
 use mathlib.Core.List.{List, [], ◌∷◌, ◌++◌}
 use mathlib.Core.Logic.{⊎_elim}
@@ -10,7 +12,7 @@ use lib.Count.{ones}
 use lib.Dec.{eqb}
 use lib.ListN.{length, get_or, drop, drop_of_length-le}
 use lib.Pow.{shr-shr, shr_lt}
-use lib.Seq.{drop-append-le, drop-append-add, drop-cons}
+use lib.Seq.{drop-append-le, drop-append-add}
 use borrow.Author.Tests.{eqb-true, eqb-false, eq-eqb, ne_eqb}
 use Rattle.types.proofs.TestLaws.{decided, eq-or-ne}
 use Rattle.alloc.specs.Marks.{bits_of, marks_of, count_of}
@@ -18,15 +20,11 @@ use Rattle.alloc.proofs.MarksLaws.{length-bits_of, count_of-append, count_of-bit
 
 -- ---- byte by byte
 
-pub count-one : (bs : List ℕ) (i : ℕ) → i < length bs → get_or bs i 0 < 256
-    → count_of (marks_of (drop i bs)) ≡ ones (get_or bs i 0) + count_of (marks_of (drop (i + 1) bs))
-unfolding marks_of
-count-one bs i h l =
-    rw (drop-cons bs i 0 h, count_of-append, count_of-bits_of 8 (get_or bs i 0) l, add-one i)
-
-pub count-end : (bs : List ℕ) (i : ℕ) → length bs ≤ i → count_of (marks_of (drop i bs)) ≡ 0
+pub count-all : (bs : List ℕ) → ((i : ℕ) → get_or bs i 0 < 256) → count_of (marks_of bs) ≡ sum_by ones bs
 unfolding marks_of count_of
-count-end bs i h = rw (drop_of_length-le bs h)
+count-all [] h = refl
+count-all (b ∷ bs) h =
+    count_of-append (bits_of 8 b) (marks_of bs) ∙ rw (count_of-bits_of 8 b (h 0), count-all bs (λ i. h (suc i)), sum_by-cons ones b bs)
 
 -- ---- from a page on
 

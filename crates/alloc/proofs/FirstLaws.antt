@@ -1,4 +1,5 @@
 -- The first free page of a search, by its place in the order, and that order by numbers. Assumes nothing.
+use Rattle.std.specs.Prelude.{Some, None}
 use mathlib.Core.Path.{◌≡◌, refl, sym, ap, ◌∙◌}
 use mathlib.Core.Bool.{Bool, true, false}
 use mathlib.Core.List.{List, [], ◌∷◌, ◌++◌}
@@ -9,7 +10,6 @@ use native.Mathlib.Omega.{arith}
 use lib.ListN.{length, get_or, length-append, get_or-append}
 use lib.Seq.{get_or-append-add}
 use Rattle.types.specs.declared.page_id.PageID.{PageID}
-use Rattle.types.specs.declared.page_id.MaybePageID.TheVariants.{None, Some}
 use Rattle.types.proofs.TestLaws.{decided, le-or-lt}
 use Rattle.alloc.specs.Search.{up_from, round_from, first_free}
 

@@ -1,4 +1,6 @@
 -- A freed page is found again when the search comes round. Assumes nothing.
+use Rattle.std.specs.Prelude.{Ok, Some, None}
+use Rattle.std.specs.declared.option.Option.{Option}
 use mathlib.Core.Path.{◌≡◌, refl, sym, ap, ◌∙◌}
 use mathlib.Core.Bool.{true, false, false≢true}
 use mathlib.Core.Logic.{◌⊎◌, inl, inr, ⊎_elim}
@@ -9,8 +11,6 @@ use lib.ListN.{set, replicate}
 use lib.Seq.{get_or-set_same, get_or-set_other}
 use borrow.Author.Tests.{lt-ltb}
 use Rattle.types.specs.declared.page_id.PageID.{PageID}
-use Rattle.types.specs.declared.page_id.MaybePageID.{MaybePageID}
-use Rattle.types.specs.declared.page_id.MaybePageID.TheVariants as maybe
 use Rattle.types.proofs.HistoryLaws.{left_after-none, left_after-more}
 use Rattle.types.proofs.TestLaws.{eq-or-ne}
 use Rattle.alloc.specs.Calls as calls
@@ -20,7 +20,6 @@ use Rattle.alloc.specs.History.{try_allocate, left_by, left_after}
 use Rattle.alloc.specs.Marks.{marks_of, is_marked, freeing}
 use Rattle.alloc.specs.State.{freed}
 use Rattle.alloc.specs.declared.allocator.Allocator.{Allocator}
-use Rattle.alloc.specs.declared.answers.Allocated.TheVariants.{Page, None}
 use Rattle.alloc.proofs.HandedLaws.{HandedOut, handed_out, hands_out}
 use Rattle.alloc.proofs.KeptLaws.{kept, freed-in, freed-sized}
 use Rattle.alloc.proofs.MarksLaws.{length-marks_of, marks_of-freeing}
@@ -50,7 +49,7 @@ module _ (a : Allocator) (p : ℕ) (sound : Sound a) (below : p < a.page_count) 
   -- where every page on the way to it is used, a freed page is the next to go out
   pub freed-first : (steps : ℕ) → steps < a.page_count → p ≡ (a.next_page_id + steps) % a.page_count
       → ((j : ℕ) → j < steps → is_marked a.pages ((a.next_page_id + j) % a.page_count) ≡ true)
-      → (calls.try_allocate (calls.free a (record { 0 = p })).allocator).answer ≡ Page (record { 0 = p })
+      → (calls.try_allocate (calls.free a (record { 0 = p })).allocator).answer ≡ Ok (Some (record { 0 = p }))
   freed-first steps within is first =
       rw free-done
       (hands_out (freed a p) p steps (freed-in a p sound.0 sound.1 below used) within is freed-free
@@ -59,7 +58,7 @@ module _ (a : Allocator) (p : ℕ) (sound : Sound a) (below : p < a.page_count) 
       ∙ first j l))
 
   -- so it is where all pages were used
-  pub freed-last : a.used ≡ a.page_count → (calls.try_allocate (calls.free a (record { 0 = p })).allocator).answer ≡ Page (record { 0 = p })
+  pub freed-last : a.used ≡ a.page_count → (calls.try_allocate (calls.free a (record { 0 = p })).allocator).answer ≡ Ok (Some (record { 0 = p }))
   freed-last full =
       let i = round-every a.next_page_id a.page_count some_next p below in
       freed-first i.0 i.1.0 (sym i.1.1)
@@ -67,13 +66,13 @@ module _ (a : Allocator) (p : ℕ) (sound : Sound a) (below : p < a.page_count) 
 
 -- ---- the search comes round
 
-page-or-none : (a : Allocator) → Sound a → ((calls.try_allocate a).answer ≡ None) ⊎ ((page : PageID) × ((calls.try_allocate a).answer ≡ Page page))
+page-or-none : (a : Allocator) → Sound a → ((calls.try_allocate a).answer ≡ Ok None) ⊎ ((page : PageID) × ((calls.try_allocate a).answer ≡ Ok (Some page)))
 unfolding calls.try_allocate
 page-or-none a s = rw (state-fine a s.1) (case (next_free a))
   where
-    case : (m : MaybePageID) → ((handing_out a m).answer ≡ None) ⊎ ((page : PageID) × ((handing_out a m).answer ≡ Page page))
-    case maybe.None = inl refl
-    case (maybe.Some page) = inr (page, refl)
+    case : (m : Option PageID) → ((handing_out a m).answer ≡ Ok None) ⊎ ((page : PageID) × ((handing_out a m).answer ≡ Ok (Some page)))
+    case None = inl refl
+    case (Some page) = inr (page, refl)
 
 -- where a page is free, not all are used
 not_full : (a : Allocator) (p : ℕ) → Sound a → p < a.page_count → is_marked a.pages p ≡ false → a.used ≡ a.page_count → ⊥
@@ -81,7 +80,7 @@ not_full a p s below f full = false≢true (sym f ∙ full-says a s.0 s.1 full p
 
 -- a page that is free is handed out before the free pages have run out
 pub comes-round : (m : ℕ) (a : Allocator) (p : ℕ) → Sound a → p < a.page_count → is_marked a.pages p ≡ false → a.page_count ≤ a.used + m
-    → (k : ℕ) × ((k < m) × ((calls.try_allocate (left_after a (replicate k try_allocate))).answer ≡ Page (record { 0 = p })))
+    → (k : ℕ) × ((k < m) × ((calls.try_allocate (left_after a (replicate k try_allocate))).answer ≡ Ok (Some (record { 0 = p }))))
 unfolding left_by
 comes-round zero a p s below f h = absurd (not_full a p s below f (omega (arith, used_le a s.1)))
 comes-round (suc m) a p s below f h = ⊎_elim (λ e. absurd (never e)) (λ q. out q.0 q.1 (comes-round m b p (kept a try_allocate s))) (page-or-none a s)
@@ -89,17 +88,17 @@ comes-round (suc m) a p s below f h = ⊎_elim (λ e. absurd (never e)) (λ q. o
     b : Allocator
     b = (calls.try_allocate a).allocator
 
-    never : (calls.try_allocate a).answer ≡ None → ⊥
+    never : (calls.try_allocate a).answer ≡ Ok None → ⊥
     never e = ⊎_elim (λ z. omega arith) (not_full a p s below f) ((none-exactly a s.0 s.1).0 e)
 
-    out : (page : PageID) → (calls.try_allocate a).answer ≡ Page page
+    out : (page : PageID) → (calls.try_allocate a).answer ≡ Ok (Some page)
         → (p < b.page_count → is_marked b.pages p ≡ false → b.page_count ≤ b.used + m
-        → (k : ℕ) × ((k < m) × ((calls.try_allocate (left_after b (replicate k try_allocate))).answer ≡ Page (record { 0 = p }))))
-        → (k : ℕ) × ((k < suc m) × ((calls.try_allocate (left_after a (replicate k try_allocate))).answer ≡ Page (record { 0 = p })))
+        → (k : ℕ) × ((k < m) × ((calls.try_allocate (left_after b (replicate k try_allocate))).answer ≡ Ok (Some (record { 0 = p })))))
+        → (k : ℕ) × ((k < suc m) × ((calls.try_allocate (left_after a (replicate k try_allocate))).answer ≡ Ok (Some (record { 0 = p }))))
     out page e rest =
         let o : HandedOut a page.0 b = handed_out a page s.0 e in
         ⊎_elim
-        (λ same. (0, (omega arith, rw (left_after-none left_by a) (e ∙ ap (λ (x : ℕ). Page (record { 0 = x })) same))))
+        (λ same. (0, (omega arith, rw (left_after-none left_by a) (e ∙ ap (λ (x : ℕ). Ok (Some (record { 0 = x }))) same))))
         (λ n.
         let r = rest (omega (arith, o.same)) (o.others p (λ q. n (sym q)) ∙ f) (omega (arith, o.same, o.counted)) in
         (suc r.0, (omega (arith, r.1.0), rw (left_after-more left_by a try_allocate (replicate r.0 try_allocate)) r.1.1)))
@@ -108,7 +107,7 @@ comes-round (suc m) a p s below f h = ⊎_elim (λ e. absurd (never e)) (λ q. o
 -- a page that was freed is handed out again too
 pub found-again : (a : Allocator) (p : ℕ) → Sound a → p < a.page_count → is_marked a.pages p ≡ true
     → (k : ℕ) × ((k < a.page_count - a.used + 1)
-    × ((calls.try_allocate (left_after (calls.free a (record { 0 = p })).allocator (replicate k try_allocate))).answer ≡ Page (record { 0 = p })))
+    × ((calls.try_allocate (left_after (calls.free a (record { 0 = p })).allocator (replicate k try_allocate))).answer ≡ Ok (Some (record { 0 = p }))))
 found-again a p s below used =
     let fewer : a.page_count ≤ a.used - 1 + (a.page_count - a.used + 1) = enough a.used a.page_count (used_pos a p s.1 used) (used_le a s.1) in
     rw (free-done a p s below used)

@@ -1,35 +1,37 @@
 -- What try_allocate hands out. Assumes nothing.
+use Rattle.std.specs.Prelude.{Ok, Err, Some, None}
+use Rattle.std.specs.declared.option.Option.{Option}
 use mathlib.Core.Path.{◌≡◌, refl, sym, ap, ◌∙◌}
 use mathlib.Core.Bool.{true, false}
 use Prim.Native.Nat.{ℕ, ◌+◌, ◌*◌, ◌%◌, ◌≤◌, ◌<◌}
 use native.Mathlib.Omega.{arith}
 use lib.ListN.{length, get_or, set}
 use lib.Seq.{get_or-set_same, get_or-set_other}
-use Rattle.types.specs.Checks.{refused_or}
+use Rattle.types.specs.Checks.{refused_or, Verdict}
 use Rattle.types.specs.declared.page_id.PageID.{PageID}
-use Rattle.types.specs.declared.page_id.MaybePageID.{MaybePageID}
-use Rattle.types.specs.declared.page_id.MaybePageID.TheVariants as maybe
 use Rattle.alloc.specs.Calls.{next_free, try_allocate, handing_out, refused_allocation}
 use Rattle.alloc.specs.Checks.{state_check}
 use Rattle.alloc.specs.Marks.{marks_of, is_marked, marking}
 use Rattle.alloc.specs.Search.{round_from}
 use Rattle.alloc.specs.State.{marked, moved_past, Sized}
 use Rattle.alloc.specs.declared.allocator.Allocator.{Allocator}
-use Rattle.alloc.specs.declared.answers.Allocated.TheVariants.{Page}
-use Rattle.types.specs.declared.refusal.Verdict.{Verdict}
-use Rattle.types.specs.declared.refusal.Verdict.TheVariants.{Fine, Refused}
 use Rattle.alloc.proofs.FirstLaws.{First, first_says, says_first, length-round_from, round_from-at, found_below}
 use Rattle.alloc.proofs.MarksLaws.{length-marks_of, marks_of-marking}
-use Rattle.alloc.proofs.StateLaws.{InRange, fine-state, state-fine, next_le}
+use Rattle.alloc.proofs.StateLaws.{InRange, fine-state, fine-range, state-fine, next_le}
 
-page-after : (k : Verdict) (a : Allocator) (m : MaybePageID) (page : PageID) → (refused_or k (refused_allocation a) (handing_out a m)).answer ≡ Page page
-    → (k ≡ Fine) × (m ≡ maybe.Some page)
-page-after (Refused why) a m page e = let z : ◌≡◌ {A = ℕ} 0 1 = cc in absurd (omega arith)
-page-after Fine a maybe.None page e = let z : ◌≡◌ {A = ℕ} 0 1 = cc in absurd (omega arith)
-page-after Fine a (maybe.Some q) page e = let f : q ≡ page = cc in (refl, ap maybe.Some f)
+page-after : (k : Verdict) (a : Allocator) (m : Option PageID) (page : PageID) → (refused_or k (refused_allocation a) (handing_out a m)).answer ≡ Ok (Some page)
+    → (k ≡ Ok tt) × (m ≡ Some page)
+page-after (Err why) a m page e = let z : ◌≡◌ {A = ℕ} 0 1 = cc in absurd (omega arith)
+page-after (Ok tt) a None page e = let z : ◌≡◌ {A = ℕ} 0 1 = cc in absurd (omega arith)
+page-after (Ok tt) a (Some q) page e = let f : q ≡ page = cc in (refl, ap Some f)
+
+-- what is handed out is what the search found, with the allocator that this leaves
+pub handed_whole : (a : Allocator) (m : Option PageID) → record { answer = Ok m; allocator = (handing_out a m).allocator } ≡ handing_out a m
+handed_whole a None = refl
+handed_whole a (Some page) = refl
 
 -- what the search finds is a page, and free
-pub found-free : (a : Allocator) (page : PageID) (p : ℕ) → InRange a → next_free a ≡ maybe.Some page → p ≡ page.0
+pub found-free : (a : Allocator) (page : PageID) (p : ℕ) → InRange a → next_free a ≡ Some page → p ≡ page.0
     → (p < a.page_count) × (is_marked a.pages p ≡ false)
 found-free a page p r e is =
     let f = first_says (marks_of a.pages) (round_from a.next_page_id a.page_count) page e in
@@ -50,11 +52,11 @@ pub record HandedOut (a : Allocator) (p : ℕ) (b : Allocator) : Type 0 where
   pub is : p ≡ (a.next_page_id + steps) % a.page_count
   pub first : (j : ℕ) → j < steps → is_marked a.pages ((a.next_page_id + j) % a.page_count) ≡ true
 
-pub handed_out : (a : Allocator) (page : PageID) → Sized a → (try_allocate a).answer ≡ Page page → HandedOut a page.0 (try_allocate a).allocator
+pub handed_out : (a : Allocator) (page : PageID) → Sized a → (try_allocate a).answer ≡ Ok (Some page) → HandedOut a page.0 (try_allocate a).allocator
 unfolding try_allocate
 handed_out a page size e = rw (s.0, s.1) (made (fine-state a s.0) (first_says (marks_of a.pages) (round_from a.next_page_id a.page_count) page s.1))
   where
-    s : (state_check a ≡ Fine) × (next_free a ≡ maybe.Some page)
+    s : (state_check a ≡ Ok tt) × (next_free a ≡ Some page)
     s = page-after (state_check a) a (next_free a) page e
 
     made : InRange a → First (marks_of a.pages) (round_from a.next_page_id a.page_count) page.0 → HandedOut a page.0 (moved_past (marked a page.0) page.0)
@@ -85,7 +87,7 @@ handed_out a page size e = rw (s.0, s.1) (made (fine-state a s.0) (first_says (m
 pub hands_out : (a : Allocator) (p steps : ℕ) → InRange a → steps < a.page_count → p ≡ (a.next_page_id + steps) % a.page_count
     → is_marked a.pages p ≡ false
     → ((j : ℕ) → j < steps → is_marked a.pages ((a.next_page_id + j) % a.page_count) ≡ true)
-    → (try_allocate a).answer ≡ Page (record { 0 = p })
+    → (try_allocate a).answer ≡ Ok (Some (record { 0 = p }))
 unfolding try_allocate
 hands_out a p steps r within is free first =
     rw (state-fine a r, says_first (marks_of a.pages) (round_from a.next_page_id a.page_count) p found_first)
@@ -102,3 +104,6 @@ hands_out a p steps r within is free first =
           free = free;
           passed = λ j l. rw (at j (omega arith)) (first j l);
         }
+
+-- a page handed out, of an allocator in range
+pub ruleset handed = (fine-range, handed_whole)

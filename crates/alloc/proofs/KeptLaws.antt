@@ -1,4 +1,8 @@
 -- An allocator in range stays in range, whatever is called. Assumes nothing.
+use Rattle.std.specs.Prelude.{Ok, Err, Some, None, ⊤}
+use Rattle.std.specs.declared.option.Option.{Option}
+use Rattle.std.specs.declared.result.Result.{Result}
+use Rattle.types.specs.declared.refusal.Refusal.{Refusal}
 use mathlib.Core.Path.{◌≡◌, refl, sym, ◌∙◌}
 use mathlib.Core.Bool.{Bool, true, false, cond}
 use mathlib.Core.List.{List, [], ◌∷◌}
@@ -10,8 +14,6 @@ use lib.ListN.{length, set, drop, replicate, length-set}
 use lib.Seq.{drop-set-lt}
 use Rattle.types.specs.Build.{max_page_count}
 use Rattle.types.specs.declared.page_id.PageID.{PageID}
-use Rattle.types.specs.declared.page_id.MaybePageID.{MaybePageID}
-use Rattle.types.specs.declared.page_id.MaybePageID.TheVariants.{None, Some}
 use Rattle.alloc.specs.Calls as calls
 use Rattle.alloc.specs.Calls.{next_free, handing_out}
 use Rattle.alloc.specs.Checks.{state_check, own_page_check, count_check}
@@ -21,13 +23,7 @@ use Rattle.alloc.specs.Several as several
 use Rattle.alloc.specs.Several.{Handed, then_further, handed_by, then_freeing, free_on}
 use Rattle.alloc.specs.State.{all_free, marked, freed, moved_past, Sized, in_range}
 use Rattle.alloc.specs.declared.allocator.Allocator.{Allocator}
-use Rattle.alloc.specs.declared.answers.Allocated.{Allocated}
-use Rattle.alloc.specs.declared.answers.Allocated.TheVariants as allocated
-use Rattle.alloc.specs.declared.answers.Allocation.{Allocation}
-use Rattle.alloc.specs.declared.answers.Allocations.{Allocations}
 use Rattle.alloc.specs.declared.answers.Change.{Change}
-use Rattle.types.specs.declared.answers.Outcome.{Outcome}
-use Rattle.types.specs.declared.answers.Outcome.TheVariants as outcome
 use Rattle.types.proofs.HistoryLaws.{left_after-keeps}
 use Rattle.alloc.proofs.HandedLaws.{found-free}
 use Rattle.alloc.proofs.MarksLaws.{no-bits-of-zero, count_of-append, count_of-split, count_of-mark, count_of-free, length-marks_of, marks_of-marking, marks_of-freeing}
@@ -88,35 +84,35 @@ freed-sized a p s = simp length-set s
 
 -- ---- calls
 
-either : (P : Allocator → Type 0) (t : Bool) (x y : Change) → (t ≡ true → P x.allocator) → (t ≡ false → P y.allocator) → P (cond t x y).allocator
+either : (P : Allocator → Type 0) (t : Bool) (x y : Change ⊤) → (t ≡ true → P x.allocator) → (t ≡ false → P y.allocator) → P (cond t x y).allocator
 either P true x y f g = f refl
 either P false x y f g = g refl
 
-handed : (P : Allocator → Type 0) (a : Allocator) (next_free : MaybePageID) → P a
+handed : (P : Allocator → Type 0) (a : Allocator) (next_free : Option PageID) → P a
     → ((page : PageID) → next_free ≡ Some page → P (moved_past (marked a page.0) page.0)) → P (handing_out a next_free).allocator
 handed P a None p f = p
 handed P a (Some page) p f = f page refl
 
 allocated-kept : (a : Allocator) → Sound a → Sound (calls.try_allocate a).allocator
 unfolding calls.try_allocate
-allocated-kept a s = refused_or-either (λ (x : Allocation). Sound x.allocator) (state_check a) _ _ (λ why. s) (λ e. handed Sound a (next_free a) s (λ page f.
+allocated-kept a s = refused_or-either (λ (x : Change (Option PageID)). Sound x.allocator) (state_check a) _ _ (λ why. s) (λ e. handed Sound a (next_free a) s (λ page f.
     let p = page.0 in
     let here = found-free a page p s.1 f refl in
     let size = marked-sized a p s.0 in
     (size, moved_past-in (marked a p) p size (marked-in a p s.0 s.1 here.0 here.1) here.0)))
 
-freed-kept : (a : Allocator) (p : ℕ) → Sound a → Sound (calls.free a (record { 0 = p })).allocator
+pub freed-kept : (a : Allocator) (p : ℕ) → Sound a → Sound (calls.free a (record { 0 = p })).allocator
 unfolding calls.free
-freed-kept a p s = refused_or-either (λ (x : Change). Sound x.allocator) (own_page_check a (record { 0 = p })) _ _ (λ why. s) (λ e.
+freed-kept a p s = refused_or-either (λ (x : Change ⊤). Sound x.allocator) (own_page_check a (record { 0 = p })) _ _ (λ why. s) (λ e.
     let below = (fine-page a (record { 0 = p }) e).1 in
     either Sound (is_marked a.pages p) _ _ (λ m. (freed-sized a p s.0, freed-in a p s.0 s.1 below m)) (λ m. s))
 
 -- ---- calls for several pages
 
-further-kept : (x : Allocated) (a : Allocator) (h : Handed) → Sound a → Sound h.allocator → Sound (then_further x a h).allocator
-further-kept (allocated.Page page) a h s t = t
-further-kept allocated.None a h s t = s
-further-kept (allocated.Refused why) a h s t = s
+further-kept : (x : Result (Option PageID) Refusal) (a : Allocator) (h : Handed) → Sound a → Sound h.allocator → Sound (then_further x a h).allocator
+further-kept (Ok (Some page)) a h s t = t
+further-kept (Ok None) a h s t = s
+further-kept (Err why) a h s t = s
 
 handed-kept : (n : ℕ) (a : Allocator) → Sound a → Sound (handed_by n a).allocator
 unfolding handed_by
@@ -124,9 +120,9 @@ handed-kept zero a s = s
 handed-kept (suc n) a s =
     further-kept (calls.try_allocate a).answer a _ s (handed-kept n (calls.try_allocate a).allocator (allocated-kept a s))
 
-onward-kept : (x : Outcome) (start : Allocator) (c : Change) → Sound start → Sound c.allocator → Sound (then_freeing x start c).allocator
-onward-kept outcome.Done start c s t = t
-onward-kept (outcome.Refused why) start c s t = s
+onward-kept : (x : Result ⊤ Refusal) (start : Allocator) (c : Change ⊤) → Sound start → Sound c.allocator → Sound (then_freeing x start c).allocator
+onward-kept (Ok tt) start c s t = t
+onward-kept (Err why) start c s t = s
 
 free_on-kept : (start : Allocator) (pages : List ℕ) (a : Allocator) → Sound start → Sound a → Sound (free_on start pages a).allocator
 unfolding free_on
@@ -140,10 +136,10 @@ free_on-kept start (p ∷ ps) a s t =
 pub kept : (a : Allocator) (c : Call) → Sound a → Sound (left_by a c)
 unfolding left_by calls.reset calls.mark_used several.try_allocate_each several.free_each
 kept a (reset count seed) s =
-    refused_or-either (λ (x : Change). Sound x.allocator) (count_check count) _ _ (λ why. s)
+    refused_or-either (λ (x : Change ⊤). Sound x.allocator) (count_check count) _ _ (λ why. s)
     (λ e. let f = fine-count count e in (refl, all_free-in count (seed % count) f.1 (inl (mod-lt seed f.0))))
 kept a try_allocate s = allocated-kept a s
-kept a (mark_used p) s = refused_or-either (λ (x : Change). Sound x.allocator) (own_page_check a (record { 0 = p })) _ _ (λ why. s) (λ e.
+kept a (mark_used p) s = refused_or-either (λ (x : Change ⊤). Sound x.allocator) (own_page_check a (record { 0 = p })) _ _ (λ why. s) (λ e.
     let below = (fine-page a (record { 0 = p }) e).1 in
     either Sound (is_marked a.pages p) _ _ (λ m. s) (λ m. (marked-sized a p s.0, marked-in a p s.0 s.1 below m)))
 kept a (free p) s = freed-kept a p s
@@ -152,8 +148,8 @@ kept a used_pages s = s
 kept a free_pages s = s
 kept a page_count s = s
 kept a (margin wanted) s = s
-kept a (try_allocate_each n) s = refused_or-either (λ (x : Allocations). Sound x.allocator) (state_check a) _ _ (λ why. s) (λ e. handed-kept n a s)
-kept a (free_each pages) s = refused_or-either (λ (x : Change). Sound x.allocator) (state_check a) _ _ (λ why. s) (λ e. free_on-kept a pages a s s)
+kept a (try_allocate_each n) s = refused_or-either (λ (x : Change ℕ). Sound x.allocator) (state_check a) _ _ (λ why. s) (λ e. handed-kept n a s)
+kept a (free_each pages) s = refused_or-either (λ (x : Change ⊤). Sound x.allocator) (state_check a) _ _ (λ why. s) (λ e. free_on-kept a pages a s s)
 
 -- the same, of the test that the code makes
 pub range-kept : (a : Allocator) (c : Call) → Sized a → in_range a ≡ true → in_range (left_by a c) ≡ true

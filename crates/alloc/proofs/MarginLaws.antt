@@ -9,6 +9,7 @@ use lib.Signed.{mag}
 use mir.Facts.{to_z_pos, to_z-of_z}
 use mir.Syntax.{w64}
 use mir.Val.{SFits, to_z, of_z}
+use Rattle.alloc.proofs.StateLaws.{fine-wanted, used_le}
 use Rattle.types.specs.Build.{max_page_count}
 
 mag-sub : (m n : ℕ) → m ≤ max_page_count → n ≤ max_page_count → mag (pos m -ℤ pos n) ≤ max_page_count
@@ -36,3 +37,6 @@ module _ (m n : ℕ) (few : m ≤ max_page_count) (wanted : n ≤ max_page_count
 
   pub margin-read : to_z w64 (of_z w64 (to_z w64 m -ℤ to_z w64 n)) ≡ pos m -ℤ pos n
   margin-read = rw margin-is (to_z-of_z margin-small)
+
+-- the margin of an allocator in range
+pub ruleset margins = (fine-wanted, used_le, small, margin-fits, margin-read)

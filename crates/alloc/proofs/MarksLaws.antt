@@ -1,4 +1,7 @@
 -- Bytes and the marks in them. Assumes nothing.
+use Rattle.std.proofs.Common.{bit_and, bit_or}
+use Rattle.std.proofs.lemmas.Nat.Bits.{and_pow}
+use Rattle.std.specs.Int.Bits.{or_add_and}
 use mathlib.Core.Path.{◌≡◌, refl, sym, ap, ap₂, ◌∙◌}
 use mathlib.Core.Bool.{Bool, true, false, cond, not, false≢true}
 use mathlib.Core.List.{List, [], ◌∷◌, ◌++◌}
@@ -55,20 +58,6 @@ bit_le (suc k) n zero e = let f : n % 2 ≡ 1 = eqb-true (n % 2) 1 e in omega ar
 bit_le (suc k) n (suc i) e =
     let p : 2 ^ suc i ≡ 2 ^ i * 2 = pow-suc 2 i in
     let l : 2 ^ i ≤ n / 2 = bit_le k (n / 2) i e in
-    omega arith
-
--- a number below 2 ^ k stays below it when a bit that is 0 is set
-pub bit-room : (k n i : ℕ) → i < k → n < 2 ^ k → get_or (bits_of k n) i false ≡ false → n + 2 ^ i < 2 ^ k
-unfolding bits_of
-bit-room zero n i h l e = absurd (omega arith)
-bit-room (suc k) n zero h l e =
-    let p : 2 ^ suc k ≡ 2 ^ k * 2 = pow-suc 2 k in
-    let f : n % 2 ≡ 1 → ⊥ = eqb-false (n % 2) 1 e in
-    omega arith
-bit-room (suc k) n (suc i) h l e =
-    let p : 2 ^ suc k ≡ 2 ^ k * 2 = pow-suc 2 k in
-    let q : 2 ^ suc i ≡ 2 ^ i * 2 = pow-suc 2 i in
-    let m : n / 2 + 2 ^ i < 2 ^ k = bit-room k (n / 2) i (omega arith) (omega arith) e in
     omega arith
 
 -- one that is 1 is cleared by taking its power away
@@ -239,10 +228,18 @@ shifted p = shl_exact 1 (p % 8) 8 (lit< tt) (omega arith) ∙ (let e : 1 * 2 ^ (
 mark-bit : (bs : List ℕ) (p : ℕ) → is_marked bs p ≡ get_or (bits_of 8 (get_or bs (p / 8) 0)) (p % 8) false
 mark-bit bs p = mark-is bs p ∙ sym (get_or-bits_of 8 (get_or bs (p / 8) 0) (p % 8) (omega arith))
 
--- a free page's byte stays a byte when the page is marked
-pub mark-fits : (bs : List ℕ) (p : ℕ) → get_or bs (p / 8) 0 < 256 → is_marked bs p ≡ false → get_or bs (p / 8) 0 + 2 ^ (p % 8) < 256
-mark-fits bs p l f = bit-room 8 (get_or bs (p / 8) 0) (p % 8) (omega arith) l (sym (mark-bit bs p) ∙ f)
+-- a free page's bit put into its byte is added to it
+pub mark-added : (bs : List ℕ) (p : ℕ) → is_marked bs p ≡ false → bit_or (get_or bs (p / 8) 0) (2 ^ (p % 8)) ≡ get_or bs (p / 8) 0 + 2 ^ (p % 8)
+mark-added bs p f =
+    let b = get_or bs (p / 8) 0 in
+    let n : b / 2 ^ (p % 8) % 2 ≡ 1 → ⊥ = eqb-false (b / 2 ^ (p % 8) % 2) 1 (sym (mark-is bs p) ∙ f) in
+    let z : b / 2 ^ (p % 8) % 2 ≡ 0 = omega arith in
+    let none : bit_and b (2 ^ (p % 8)) ≡ 0 = and_pow b (p % 8) ∙ rw z (omega arith) in
+    omega (arith, or_add_and b (2 ^ (p % 8)), none)
 
 -- a marked page's byte has the bit that is taken away
 pub mark-there : (bs : List ℕ) (p : ℕ) → is_marked bs p ≡ true → 2 ^ (p % 8) ≤ get_or bs (p / 8) 0
 mark-there bs p f = bit_le 8 (get_or bs (p / 8) 0) (p % 8) (sym (mark-bit bs p) ∙ f)
+
+-- a mark, as code asks for it, sets it and clears it
+pub ruleset mark_as_code = (mark-is, shifted, mark-added, mark-there)

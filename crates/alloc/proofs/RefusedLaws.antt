@@ -1,11 +1,13 @@
 -- A refused call leaves the allocator as it was. Assumes nothing.
+use Rattle.std.specs.Prelude.{Ok, Err, Some, None, ⊤}
+use Rattle.std.specs.declared.option.Option.{Option}
+use Rattle.std.specs.declared.result.Result.{Result}
+use Rattle.types.specs.declared.page_id.PageID.{PageID}
 use mathlib.Core.Path.{◌≡◌, refl}
 use mathlib.Core.Bool.{Bool, true, false, cond}
 use mathlib.Core.List.{List, [], ◌∷◌}
 use Prim.Native.Nat.{ℕ, ◌%◌}
-use Rattle.types.specs.Checks.{refused_or}
-use Rattle.types.specs.declared.page_id.MaybePageID.{MaybePageID}
-use Rattle.types.specs.declared.page_id.MaybePageID.TheVariants.{None, Some}
+use Rattle.types.specs.Checks.{refused_or, Verdict}
 use Rattle.types.specs.Answers.{outcome_told}
 use Rattle.alloc.specs.Answers.{allocated_told, pages_told}
 use Rattle.alloc.specs.Calls as calls
@@ -18,19 +20,15 @@ use Rattle.alloc.specs.Several.{Handed, handed_by, refused_allocations, allocati
 use Rattle.alloc.specs.State.{all_free, marked, freed}
 use Rattle.alloc.specs.declared.allocator.Allocator.{Allocator}
 use Rattle.alloc.specs.declared.answers.Change.{Change}
-use Rattle.types.specs.declared.answers.Outcome.{Outcome}
-use Rattle.types.specs.declared.answers.Outcome.TheVariants as outcome
 use Rattle.types.specs.declared.refusal.Refusal.{Refusal}
 use Rattle.types.specs.declared.refusal.Refusal.TheVariants.{Corrupted}
-use Rattle.types.specs.declared.refusal.Verdict.{Verdict}
-use Rattle.types.specs.declared.refusal.Verdict.TheVariants.{Fine, Refused}
 use Rattle.alloc.proofs.StateLaws.{refused_or-either}
 
 -- a change that leaves another allocator is no refusal
-Honest : Allocator → Change → Type 0
+Honest : Allocator → Change ⊤ → Type 0
 Honest a w = ((outcome_told w.answer).number ≡ 0 → ⊥) → w.allocator ≡ a
 
-picked : (t : Bool) (a : Allocator) (x y : Change) → Honest a x → Honest a y → Honest a (cond t x y)
+picked : (t : Bool) (a : Allocator) (x y : Change ⊤) → Honest a x → Honest a y → Honest a (cond t x y)
 picked true a x y f g = f
 picked false a x y f g = g
 
@@ -42,25 +40,25 @@ refused-honest : (a : Allocator) (why : Refusal) → Honest a (refused_change a 
 unfolding Honest
 refused-honest a why n = refl
 
-checked : (k : Verdict) (a : Allocator) (w : Change) → Honest a w → Honest a (refused_or k (refused_change a) w)
+checked : (k : Verdict) (a : Allocator) (w : Change ⊤) → Honest a w → Honest a (refused_or k (refused_change a) w)
 checked k a w h = refused_or-either (Honest a) k (refused_change a) w (refused-honest a) (λ e. h)
 
-handed-honest : (k : Verdict) (a : Allocator) (m : MaybePageID) → ((allocated_told (refused_or k (refused_allocation a) (handing_out a m)).answer).number ≡ 0 → ⊥)
+handed-honest : (k : Verdict) (a : Allocator) (m : Option PageID) → ((allocated_told (refused_or k (refused_allocation a) (handing_out a m)).answer).number ≡ 0 → ⊥)
     → (refused_or k (refused_allocation a) (handing_out a m)).allocator ≡ a
-handed-honest (Refused why) a m n = refl
-handed-honest Fine a None n = refl
-handed-honest Fine a (Some page) n = absurd (n refl)
+handed-honest (Err why) a m n = refl
+handed-honest (Ok tt) a None n = refl
+handed-honest (Ok tt) a (Some page) n = absurd (n refl)
 
 each-honest : (k : Verdict) (a : Allocator) (h : Handed) (pages : List ℕ)
     → ((pages_told (refused_or k (refused_allocations a) (allocations_of h)).answer pages).number ≡ 0 → ⊥)
     → (refused_or k (refused_allocations a) (allocations_of h)).allocator ≡ a
-each-honest (Refused why) a h pages n = refl
-each-honest Fine a h pages n = absurd (n refl)
+each-honest (Err why) a h pages n = refl
+each-honest (Ok tt) a h pages n = absurd (n refl)
 
-onward-honest : (x : Outcome) (start : Allocator) (c : Change) → Honest start c → Honest start (then_freeing x start c)
+onward-honest : (x : Result ⊤ Refusal) (start : Allocator) (c : Change ⊤) → Honest start c → Honest start (then_freeing x start c)
 unfolding Honest
-onward-honest outcome.Done start c h = h
-onward-honest (outcome.Refused why) start c h = λ n. refl
+onward-honest (Ok tt) start c h = h
+onward-honest (Err why) start c h = λ n. refl
 
 free_on-honest : (start : Allocator) (pages : List ℕ) (a : Allocator) → Honest start (free_on start pages a)
 unfolding free_on

@@ -1,4 +1,7 @@
 -- The search, page by page and byte by byte. Assumes nothing.
+use Rattle.std.specs.Prelude.{Some, None}
+use Rattle.std.specs.Option.{option_or}
+use Rattle.std.specs.declared.option.Option.{Option}
 use mathlib.Core.Path.{◌≡◌, refl, sym, ◌∙◌}
 use mathlib.Core.Bool.{Bool, true, false, cond}
 use mathlib.Core.List.{List, [], ◌∷◌, ◌++◌}
@@ -8,8 +11,6 @@ use native.Mathlib.Omega.{arith}
 use lib.ListN.{get_or, get_or-replicate}
 use borrow.Author.Tests.{eq-eqb}
 use Rattle.types.specs.declared.page_id.PageID.{PageID}
-use Rattle.types.specs.declared.page_id.MaybePageID.{MaybePageID}
-use Rattle.types.specs.declared.page_id.MaybePageID.TheVariants.{None, Some}
 use Rattle.types.proofs.TestLaws.{le-or-lt}
 use Rattle.alloc.specs.Marks.{bits_of, marks_of, is_marked}
 use Rattle.alloc.specs.Search.{up_from, round_from, first_free}
@@ -69,23 +70,18 @@ search-byte bs i to e =
 
 -- ---- round
 
--- what one search finds, or else another
-abbrev pub or_else : MaybePageID → MaybePageID → MaybePageID
-or_else None other = other
-or_else (Some page) other = Some page
-
-pub search-append : (ms : List Bool) (xs ys : List ℕ) → first_free ms (xs ++ ys) ≡ or_else (first_free ms xs) (first_free ms ys)
+pub search-append : (ms : List Bool) (xs ys : List ℕ) → first_free ms (xs ++ ys) ≡ option_or (first_free ms xs) (first_free ms ys)
 unfolding first_free
 search-append ms [] ys = refl
 search-append ms (p ∷ ps) ys = step (get_or ms p false) (first_free ms (ps ++ ys)) (first_free ms ps) (first_free ms ys) (search-append ms ps ys)
   where
-    step : (t : Bool) (x y z : MaybePageID) → x ≡ or_else y z → cond t x (Some (record { 0 = p })) ≡ or_else (cond t y (Some (record { 0 = p }))) z
+    step : (t : Bool) (x y z : Option PageID) → x ≡ option_or y z → cond t x (Some (record { 0 = p })) ≡ option_or (cond t y (Some (record { 0 = p }))) z
     step true x y z e = e
     step false x y z e = refl
 
 -- from next to the last, or else from 0
 pub search-round : (ms : List Bool) (next count : ℕ)
-    → first_free ms (round_from next count) ≡ or_else (first_free ms (up_from next (count - next))) (first_free ms (up_from 0 (next - 0)))
+    → first_free ms (round_from next count) ≡ option_or (first_free ms (up_from next (count - next))) (first_free ms (up_from 0 (next - 0)))
 unfolding round_from
 search-round ms next count =
     let e : next - 0 ≡ next = omega arith in
@@ -99,3 +95,6 @@ search-found ms next count page e = search-round ms next count ∙ rw e
 pub search-wraps : (ms : List Bool) (next count : ℕ)
     → first_free ms (up_from next (count - next)) ≡ None → first_free ms (round_from next count) ≡ first_free ms (up_from 0 (next - 0))
 search-wraps ms next count e = search-round ms next count ∙ rw e
+
+-- from next to the last, or else from 0, as code does it
+pub ruleset round = (search-found, search-wraps)

@@ -1,6 +1,6 @@
 -- Turn by turn, the loops of several.rt make what their definitions make of calls one after the other. Assumes nothing.
+use Rattle.std.specs.Prelude.{Ok, Err, Some, None, ⊤, true}
 use mathlib.Core.Path.{◌≡◌, refl, sym, ap, ◌∙◌}
-use mathlib.Core.Bool.{true, false}
 use mathlib.Core.List.{List, [], ◌∷◌, ◌++◌, append-nil}
 use Prim.Native.Nat.{ℕ, zero, suc, ◌+◌, ◌-◌, ◌%◌, ◌≤◌, ◌<◌}
 use native.Mathlib.Nat.{sub-zero}
@@ -8,22 +8,18 @@ use native.Mathlib.Numerals.{add-one}
 use native.Mathlib.Omega.{arith}
 use lib.ListN.{length, get_or, set, take, drop, length-set, take-append-drop, drop_of_length-le}
 use lib.Seq.{take-suc-set, append_snoc, length-take-le, drop-set-lt, drop-cons, drop-drop}
-use borrow.Author.Tests.{lt-ltb, le-ltb}
+use borrow.Author.Tests.{lt-ltb}
 use Rattle.types.specs.declared.page_id.PageID.{PageID}
-use Rattle.types.specs.declared.page_id.MaybePageID.TheVariants.{None, Some}
 use Rattle.types.specs.declared.refusal.Refusal.{Refusal}
-use Rattle.types.specs.declared.refusal.Refusal.TheVariants.{Corrupted, OutOfRange}
-use Rattle.types.specs.declared.refusal.Verdict.TheVariants.{Fine, Refused}
 use Rattle.alloc.specs.Calls.{next_free, try_allocate, free, done, refused_change}
-use Rattle.alloc.specs.Checks.{state_check, own_page_check}
+use Rattle.alloc.specs.Checks.{own_page_check, state_check}
 use Rattle.alloc.specs.Marks.{is_marked, marking, freeing}
 use Rattle.alloc.specs.Several.{Handed, nothing_handed, handed_by, refused_allocations, try_allocate_each, places_after, free_on, free_each}
 use Rattle.alloc.specs.State.{marked, freed, moved_past}
 use Rattle.alloc.specs.declared.allocator.Allocator.{Allocator}
 use Rattle.alloc.specs.declared.answers.Change.{Change}
-use Rattle.alloc.specs.declared.answers.Count.TheVariants as count
 use Rattle.alloc.proofs.HandedLaws.{found-free}
-use Rattle.alloc.proofs.KeptLaws.{marked-in, freed-in, moved_past-in, marked-sized, freed-sized}
+use Rattle.alloc.proofs.KeptLaws.{marked-in, moved_past-in, marked-sized, freed-kept}
 use Rattle.alloc.proofs.StateLaws.{InRange, Sound, is_in_range, state-fine}
 
 -- a loop's variables as one allocator
@@ -40,7 +36,7 @@ unfolding handed_by try_allocate
 hand-none zero a r none = refl
 hand-none (suc n) a r none = rw (state-fine a r, none)
 
-hand-refused : (n : ℕ) (a : Allocator) (why : Refusal) → state_check a ≡ Refused why → handed_by n a ≡ nothing_handed a
+hand-refused : (n : ℕ) (a : Allocator) (why : Refusal) → state_check a ≡ Err why → handed_by n a ≡ nothing_handed a
 unfolding handed_by try_allocate
 hand-refused zero a why e = refl
 hand-refused (suc n) a why e = rw e
@@ -50,7 +46,7 @@ hand-page : (n : ℕ) (a : Allocator) (page : PageID) → InRange a → next_fre
 unfolding handed_by try_allocate
 hand-page n a page r is = rw (state-fine a r, is)
 
-pub refused-each : (a : Allocator) (places : List ℕ) (why : Refusal) → state_check a ≡ Refused why
+pub refused-each : (a : Allocator) (places : List ℕ) (why : Refusal) → state_check a ≡ Err why
     → (refused_allocations a why ≡ try_allocate_each a (length places)) × (places ≡ places_after a places)
 unfolding try_allocate_each places_after
 refused-each a places why e = (rw e, rw (hand-refused (length places) a why e))
@@ -113,21 +109,24 @@ module _ (start : Allocator) (places₀ places : List ℕ) (i : ℕ) (a : Alloca
   handed : handed_by (length places₀ - i) a ≡ nothing_handed a → handed_by (length places₀) start ≡ record { pages = take i places; allocator = a }
   handed e = h.so_far ∙ ap (behind (take i places)) e ∙ ap (λ (l : List ℕ). record { pages = l; allocator = a }) (append-nil (take i places))
 
-  ended : state_check start ≡ Fine → handed_by (length places₀ - i) a ≡ nothing_handed a
-      → (record { answer = count.Pages i; allocator = a } ≡ try_allocate_each start (length places₀)) × (places ≡ places_after start places₀)
+  ended : state_check start ≡ Ok tt → handed_by (length places₀ - i) a ≡ nothing_handed a
+      → (record { answer = Ok i; allocator = a } ≡ try_allocate_each start (length places₀)) × (places ≡ places_after start places₀)
   unfolding try_allocate_each places_after
   ended fine e =
       let counted : length (take i places) ≡ i = length-take-le i places h.within in
       (rw (fine, handed e, counted), rw (handed e, counted) (sym (take-append-drop i places) ∙ ap (λ (l : List ℕ). take i places ++ l) h.rest))
 
-  pub no-page : state_check start ≡ Fine → next_free a ≡ None
-      → (record { answer = count.Pages i; allocator = a } ≡ try_allocate_each start (length places₀)) × (places ≡ places_after start places₀)
+  pub no-page : state_check start ≡ Ok tt → next_free a ≡ None
+      → (record { answer = Ok i; allocator = a } ≡ try_allocate_each start (length places₀)) × (places ≡ places_after start places₀)
   no-page fine none = ended fine (hand-none (length places₀ - i) a h.sound.1 none)
 
-  pub no_place : state_check start ≡ Fine → length places ≤ i
-      → (record { answer = count.Pages i; allocator = a } ≡ try_allocate_each start (length places₀)) × (places ≡ places_after start places₀)
+  pub no_place : state_check start ≡ Ok tt → length places ≤ i
+      → (record { answer = Ok (length places); allocator = a } ≡ try_allocate_each start (length places₀)) × (places ≡ places_after start places₀)
   unfolding handed_by
-  no_place fine full = let z : length places₀ - i ≡ 0 = omega (arith, h.long) in ended fine (ap (λ (n : ℕ). handed_by n a) z)
+  no_place fine full =
+      let z : length places₀ - i ≡ 0 = omega (arith, h.long) in
+      let all : length places ≡ i = omega (arith, h.within) in
+      rw all (ended fine (ap (λ (n : ℕ). handed_by n a) z))
 
 -- ---- pages freed
 
@@ -140,59 +139,52 @@ pub record Freeing (start : Allocator) (pages : List ℕ) (i : ℕ) (a : Allocat
 pub free-begun : (start : Allocator) (pages : List ℕ) → Sound start → Freeing start pages 0 start
 free-begun start pages s = record { sound = s; within = omega arith; to-come = refl }
 
-pub refused-free : (a : Allocator) (pages : List ℕ) (why : Refusal) → state_check a ≡ Refused why → refused_change a why ≡ free_each a pages
-unfolding free_each
-refused-free a pages why e = rw e
+-- the first page of some, freed or refused
+module _ (start a : Allocator) (p : ℕ) (rest : List ℕ) where
+  first-freed : (left : Allocator) → Ok tt ≡ (free a (record { 0 = p })).answer → left ≡ (free a (record { 0 = p })).allocator
+      → free_on start (p ∷ rest) a ≡ free_on start rest left
+  unfolding free_on
+  first-freed left e l = rw (← e, ← l)
 
--- the first page of some
-module _ (start a : Allocator) (p : ℕ) (rest : List ℕ) (r : InRange a) where
-  page-there : p < a.page_count → own_page_check a (record { 0 = p }) ≡ Fine
-  unfolding own_page_check
-  page-there below = rw (is_in_range a r, lt-ltb p a.page_count below)
+  first-refused : (why : Refusal) → Err why ≡ (free a (record { 0 = p })).answer → free_on start (p ∷ rest) a ≡ refused_change start why
+  unfolding free_on
+  first-refused why e = rw (← e)
 
-  first-freed : p < a.page_count → is_marked a.pages p ≡ true → free_on start (p ∷ rest) a ≡ free_on start rest (freed a p)
-  unfolding free_on free
-  first-freed below used = rw (page-there below, used)
-
-  first-free-already : p < a.page_count → is_marked a.pages p ≡ false → free_on start (p ∷ rest) a ≡ refused_change start Corrupted
-  unfolding free_on free
-  first-free-already below unused = rw (page-there below, unused)
-
-  first_past : a.page_count ≤ p → free_on start (p ∷ rest) a ≡ refused_change start OutOfRange
-  unfolding free_on free own_page_check
-  first_past past = rw (is_in_range a r, le-ltb p a.page_count past)
+free-done : (a : Allocator) (p : ℕ) → InRange a → p < a.page_count → is_marked a.pages p ≡ true → free a (record { 0 = p }) ≡ done (freed a p)
+unfolding free own_page_check
+free-done a p r below used = rw (is_in_range a r, lt-ltb p a.page_count below, used)
 
 module _ (start : Allocator) (pages : List ℕ) (i : ℕ) (a : Allocator) (h : Freeing start pages i a) where
   one : i < length pages → free_on start pages start ≡ free_on start (get_or pages i 0 ∷ drop (i + 1) pages) a
   one below = sym h.to-come ∙ ap (λ (l : List ℕ). free_on start l a) (rw (add-one i) (drop-cons pages i 0 below))
 
-  one_fewer : i < length pages → get_or pages i 0 < a.page_count → is_marked a.pages (get_or pages i 0) ≡ true
-      → Freeing start pages (i + 1) (freed a (get_or pages i 0))
-  one_fewer below there used =
+  -- one fewer is used: what a call on one page leaves
+  pub freed-on : (left : Allocator) → i < length pages → Ok tt ≡ (free a (record { 0 = get_or pages i 0 })).answer
+      → left ≡ (free a (record { 0 = get_or pages i 0 })).allocator → Freeing start pages (i + 1) left
+  freed-on left below e l =
       let p = get_or pages i 0 in
       record {
-        sound = (freed-sized a p h.sound.0, freed-in a p h.sound.0 h.sound.1 there used);
+        sound = rw l (freed-kept a p h.sound);
         within = omega arith;
-        to-come = sym (one below ∙ first-freed start a p (drop (i + 1) pages) h.sound.1 there used);
+        to-come = sym (one below ∙ first-freed start a p (drop (i + 1) pages) left e l);
       }
 
   -- the same, of a turn's variables
   pub free-on : (marks : List ℕ) → i < length pages → get_or pages i 0 < a.page_count → is_marked a.pages (get_or pages i 0) ≡ true
       → marks ≡ freeing a.pages (get_or pages i 0)
       → Freeing start pages (i + 1) (state_of a.page_count marks (a.used - 1) a.next_page_id)
-  free-on marks below there used put = rw put (one_fewer below there used)
+  free-on marks below there used put =
+      let p = get_or pages i 0 in
+      let all = free-done a p h.sound.1 there used in
+      rw put (freed-on (freed a p) below (sym (ap (λ (c : Change ⊤). c.answer) all)) (sym (ap (λ (c : Change ⊤). c.allocator) all)))
 
-  module _ (fine : state_check start ≡ Fine) where
-    each : (c : Change) → free_on start pages start ≡ c → c ≡ free_each start pages
+  module _ (fine : state_check start ≡ Ok tt) where
+    each : (c : Change ⊤) → free_on start pages start ≡ c → c ≡ free_each start pages
     unfolding free_each
     each c e = rw (fine, e)
 
-    pub past : i < length pages → a.page_count ≤ get_or pages i 0 → refused_change start OutOfRange ≡ free_each start pages
-    past below beyond = each _ (one below ∙ first_past start a (get_or pages i 0) (drop (i + 1) pages) h.sound.1 beyond)
-
-    pub free-already : i < length pages → get_or pages i 0 < a.page_count → is_marked a.pages (get_or pages i 0) ≡ false → refused_change start Corrupted ≡ free_each start pages
-    free-already below there unused =
-        each _ (one below ∙ first-free-already start a (get_or pages i 0) (drop (i + 1) pages) h.sound.1 there unused)
+    pub free-refused : (why : Refusal) → i < length pages → Err why ≡ (free a (record { 0 = get_or pages i 0 })).answer → refused_change start why ≡ free_each start pages
+    free-refused why below e = each _ (one below ∙ first-refused start a (get_or pages i 0) (drop (i + 1) pages) why e)
 
     pub all-freed : length pages ≤ i → done a ≡ free_each start pages
     unfolding free_on

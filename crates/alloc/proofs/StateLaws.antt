@@ -1,25 +1,25 @@
 -- What the checks say, as facts. Assumes nothing.
+use Rattle.std.specs.Prelude.{Ok, Err}
 use mathlib.Core.Path.{◌≡◌, refl}
 use mathlib.Core.Bool.{Bool, true, false, ◌&&◌, ◌||◌}
 use mathlib.Core.Logic.{◌⊎◌, inl, inr, ⊎_elim}
 use Prim.Native.Nat.{ℕ, ◌≤◌, ◌<◌}
+use native.Mathlib.Nat.{mod_self, mod-eq_of_lt}
 use native.Mathlib.Omega.{arith}
 use lib.Dec.{ltb, leb, eqb}
 use lib.ListN.{length, take, drop, length-take}
 use borrow.Author.Tests.{ltb-true, leb-true, eqb-true, lt-ltb, le-leb, eq-eqb}
 use Rattle.types.specs.Build.{max_page_count}
-use Rattle.types.specs.Checks.{asking, refused_or}
+use Rattle.types.specs.Checks.{asking, refused_or, Verdict}
 use Rattle.types.specs.declared.page_id.PageID.{PageID}
 use Rattle.types.specs.declared.refusal.Refusal.{Refusal}
 use Rattle.types.specs.declared.refusal.Refusal.TheVariants.{OutOfRange, BadCount, BadState}
 use Rattle.types.proofs.CheckLaws.{asking-fine}
 use Rattle.types.proofs.TestLaws.{both_true}
-use Rattle.alloc.specs.Checks.{state_check, own_page_check, wanted_check, count_check}
+use Rattle.alloc.specs.Checks.{state_check, there_check, own_page_check, wanted_check, count_check}
 use Rattle.alloc.specs.Marks.{marks_of, is_marked, count_of}
 use Rattle.alloc.specs.State.{Sized, next_fits, in_range}
 use Rattle.alloc.specs.declared.allocator.Allocator.{Allocator}
-use Rattle.types.specs.declared.refusal.Verdict.{Verdict}
-use Rattle.types.specs.declared.refusal.Verdict.TheVariants.{Fine, Refused}
 use Rattle.alloc.proofs.MarksLaws.{count_of-split, count_of-le, count_of-free}
 
 -- ---- the range
@@ -87,42 +87,53 @@ used_pos a p r m = omega (arith, r.counted, count_of-free (marks_of a.pages) p m
 
 -- what holds of each refusal, and of the work where the check is fine, holds of the checked call
 pub refused_or-either : {A : Type 0} (P : A → Type 0) (check : Verdict) (refused : Refusal → A) (work : A)
-    → ((why : Refusal) → P (refused why)) → (check ≡ Fine → P work) → P (refused_or check refused work)
-refused_or-either P (Refused why) refused work p f = p why
-refused_or-either P Fine refused work p f = f refl
+    → ((why : Refusal) → P (refused why)) → (check ≡ Ok tt → P work) → P (refused_or check refused work)
+refused_or-either P (Err why) refused work p f = p why
+refused_or-either P (Ok tt) refused work p f = f refl
 
-pub fine-state : (a : Allocator) → state_check a ≡ Fine → InRange a
+pub fine-state : (a : Allocator) → state_check a ≡ Ok tt → InRange a
 unfolding state_check
-fine-state a e = in-range a (asking-fine (in_range a) BadState Fine e).0
+fine-state a e = in-range a (asking-fine (in_range a) BadState (Ok tt) e).0
 
-pub state-fine : (a : Allocator) → InRange a → state_check a ≡ Fine
+pub fine-range : (a : Allocator) → state_check a ≡ Ok tt → in_range a ≡ true
+unfolding state_check
+fine-range a e = (asking-fine (in_range a) BadState (Ok tt) e).0
+
+pub state-fine : (a : Allocator) → InRange a → state_check a ≡ Ok tt
 unfolding state_check
 state-fine a r = rw (is_in_range a r)
 
-pub fine-page : (a : Allocator) (page : PageID) → own_page_check a page ≡ Fine → InRange a × (page.0 < a.page_count)
+pub fine-page : (a : Allocator) (page : PageID) → own_page_check a page ≡ Ok tt → InRange a × (page.0 < a.page_count)
 unfolding own_page_check
 fine-page a page e =
-    let s = asking-fine (in_range a) BadState (asking (ltb page.0 a.page_count) OutOfRange Fine) e in
-    let t = asking-fine (ltb page.0 a.page_count) OutOfRange Fine s.1 in
+    let s = asking-fine (in_range a) BadState (asking (ltb page.0 a.page_count) OutOfRange (Ok tt)) e in
+    let t = asking-fine (ltb page.0 a.page_count) OutOfRange (Ok tt) s.1 in
     (in-range a s.0, ltb-true page.0 a.page_count t.0)
 
+pub own-page : (a : Allocator) (page : PageID) → in_range a ≡ true → there_check a page ≡ Ok tt → own_page_check a page ≡ Ok tt
+unfolding own_page_check
+own-page a page r e = rw r e
+
 -- so the page has a mark
-pub page-below : (a : Allocator) (page : PageID) (p : ℕ) → own_page_check a page ≡ Fine → p ≡ page.0 → p < max_page_count
+pub page-below : (a : Allocator) (page : PageID) (p : ℕ) → own_page_check a page ≡ Ok tt → p ≡ page.0 → p < max_page_count
 page-below a page p e is = omega (arith, (fine-page a page e).0.few, (fine-page a page e).1)
 
-pub fine-wanted : (a : Allocator) (wanted : ℕ) → wanted_check a wanted ≡ Fine → (wanted ≤ max_page_count) × InRange a
+pub fine-wanted : (a : Allocator) (wanted : ℕ) → wanted_check a wanted ≡ Ok tt → (wanted ≤ max_page_count) × InRange a
 unfolding wanted_check
 fine-wanted a wanted e =
-    let s = asking-fine (leb wanted max_page_count) BadCount (asking (in_range a) BadState Fine) e in
-    let t = asking-fine (in_range a) BadState Fine s.1 in
+    let s = asking-fine (leb wanted max_page_count) BadCount (asking (in_range a) BadState (Ok tt)) e in
+    let t = asking-fine (in_range a) BadState (Ok tt) s.1 in
     (leb-true wanted max_page_count s.0, in-range a t.0)
 
-pub fine-count : (count : ℕ) → count_check count ≡ Fine → (1 ≤ count) × (count ≤ max_page_count)
+pub fine-count : (count : ℕ) → count_check count ≡ Ok tt → (1 ≤ count) × (count ≤ max_page_count)
 unfolding count_check
 fine-count count e =
-    let b = both_true (leb 1 count) (leb count max_page_count) (asking-fine (leb 1 count && leb count max_page_count) BadCount Fine e).0 in
+    let b = both_true (leb 1 count) (leb count max_page_count) (asking-fine (leb 1 count && leb count max_page_count) BadCount (Ok tt) e).0 in
     (leb-true 1 count b.0, leb-true count max_page_count b.1)
 
-pub count-fine : (count : ℕ) → 1 ≤ count → count ≤ max_page_count → count_check count ≡ Fine
+pub count-fine : (count : ℕ) → 1 ≤ count → count ≤ max_page_count → count_check count ≡ Ok tt
 unfolding count_check
 count-fine count some few = rw (le-leb 1 count some, le-leb count max_page_count few)
+
+-- what checks say that were passed
+pub ruleset ranges = (in-range, own-page, fine-state, fine-range, fine-page, page-below, fine-count, used_le, used_pos, mod_self, mod-eq_of_lt)

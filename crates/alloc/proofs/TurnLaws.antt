@@ -1,4 +1,5 @@
 -- After a reset pages are handed out in turn: each once, and all of them. Assumes nothing.
+use Rattle.std.specs.Prelude.{Ok, Some, None, ⊤}
 use mathlib.Core.Path.{◌≡◌, refl, sym, ap, ap₂, ◌∙◌}
 use mathlib.Core.Bool.{true, false}
 use mathlib.Core.List.{List, [], ◌∷◌, map}
@@ -21,7 +22,6 @@ use Rattle.alloc.specs.Marks.{is_marked}
 use Rattle.alloc.specs.Search.{up_from}
 use Rattle.alloc.specs.State.{all_free}
 use Rattle.alloc.specs.declared.allocator.Allocator.{Allocator}
-use Rattle.alloc.specs.declared.answers.Allocated.TheVariants.{Page, None}
 use Rattle.alloc.specs.declared.answers.Change.{Change}
 use Rattle.alloc.proofs.HandedLaws.{HandedOut, handed_out, hands_out}
 use Rattle.alloc.proofs.KeptLaws.{kept, all_free-in}
@@ -57,7 +57,7 @@ module _ (count first : ℕ) (few : count ≤ max_page_count) (fits : first < co
       }
 
   module _ (i : ℕ) (more : i < count) (a : Allocator) (t : Turned count first i a) where
-    turned-page : (calls.try_allocate a).answer ≡ Page (record { 0 = (first + i) % count })
+    turned-page : (calls.try_allocate a).answer ≡ Ok (Some (record { 0 = (first + i) % count }))
     turned-page =
         let z : first + i + 0 ≡ first + i = omega arith in
         let e : (first + i) % count ≡ (a.next_page_id + 0) % a.page_count = rw (t.same, t.next, mod-add-mod (first + i) count 0, z) in
@@ -99,7 +99,7 @@ module _ (count first : ℕ) (few : count ≤ max_page_count) (fits : first < co
       rw (e, left_after-more left_by a try_allocate (replicate n try_allocate))
       (turns-left n (i + 1) (calls.try_allocate a).allocator (turned_more i (omega arith) a t) (omega arith))
 
-  turned-all : (a : Allocator) → Turned count first count a → (calls.try_allocate a).answer ≡ None
+  turned-all : (a : Allocator) → Turned count first count a → (calls.try_allocate a).answer ≡ Ok None
   turned-all a t = (none-exactly a t.sound.0 t.sound.1).1 (inr (says-full a t.sound.0 t.sound.1 each))
     where
       each : (p : ℕ) → p < a.page_count → is_marked a.pages p ≡ true
@@ -122,7 +122,7 @@ in-turn a count seed n some few h =
     let t : Turned count first 0 (all_free count first) = turned_none count first few (mod-lt seed some) in
     let seeds : map (λ (j : ℕ). answered ((first + j) % count ∷ [])) (up_from 0 n) ≡ map (λ (i : ℕ). answered ((seed + i) % count ∷ [])) (up_from 0 n) = simp mod-add-mod in
     told_by_each-more left_by answer_to a (reset count seed) (replicate n try_allocate)
-    ∙ ap (λ (c : Change). outcome_told c.answer ∷ answers_to c.allocator (replicate n try_allocate)) (reset-done a count seed some few)
+    ∙ ap (λ (c : Change ⊤). outcome_told c.answer ∷ answers_to c.allocator (replicate n try_allocate)) (reset-done a count seed some few)
     ∙ ap (λ (l : List Told). answered [] ∷ l) (turns count first few (mod-lt seed some) n 0 (all_free count first) t (omega arith) ∙ seeds)
 
 -- the pages handed out are different
@@ -136,13 +136,13 @@ turns-every count seed p h =
     let r = round-every (seed % count) count (mod-lt seed (omega arith)) p h in (r.0, (r.1.0, sym (mod-add-mod seed count r.0) ∙ r.1.1))
 
 -- after the first count of them there is none
-pub then-none : (a : Allocator) (count seed : ℕ) → 1 ≤ count → count ≤ max_page_count → (calls.try_allocate (left_after a (reset count seed ∷ replicate count try_allocate))).answer ≡ None
+pub then-none : (a : Allocator) (count seed : ℕ) → 1 ≤ count → count ≤ max_page_count → (calls.try_allocate (left_after a (reset count seed ∷ replicate count try_allocate))).answer ≡ Ok None
 unfolding left_by
 then-none a count seed some few =
     let first = seed % count in
     let t : Turned count first 0 (all_free count first) = turned_none count first few (mod-lt seed some) in
     let z : 0 + count ≡ count = omega arith in
     ap (λ (b : Allocator). (calls.try_allocate b).answer) (left_after-more left_by a (reset count seed) (replicate count try_allocate))
-    ∙ ap (λ (c : Change). (calls.try_allocate (left_after c.allocator (replicate count try_allocate))).answer) (reset-done a count seed some few)
+    ∙ ap (λ (c : Change ⊤). (calls.try_allocate (left_after c.allocator (replicate count try_allocate))).answer) (reset-done a count seed some few)
     ∙ turned-all count first few (mod-lt seed some) (left_after (all_free count first) (replicate count try_allocate))
     (rw z at (turns-left count first few (mod-lt seed some) count 0 (all_free count first) t (omega arith)))

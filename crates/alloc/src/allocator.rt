@@ -3,12 +3,11 @@ ghost use Rattle.std.specs.Prelude.{◌≡◌};
 ghost use Rattle.alloc.specs.Calls.{reset, mark_used, free, try_allocate, is_used, used_pages, free_pages, page_count, margin_of};
 ghost use Rattle.alloc.specs.State.{all_free};
 
-use crate::answers::{Allocated, Allocation, Change, Count, Margin, Usage};
-use crate::{checks, marks, state};
-use types::answers::Outcome;
+use crate::answers::{Change, Usage};
+use crate::{checks, marks, work};
 use types::config::MAX_PAGE_COUNT;
-use types::page_id::{MaybePageID, PageID};
-use types::refusal::{Refusal, Verdict};
+use types::page_id::PageID;
+use types::refusal::Refusal;
 
 // Eight pages to a byte.
 pub const MARK_BYTES: usize = (MAX_PAGE_COUNT + 7) / 8;
@@ -37,146 +36,85 @@ impl Allocator {
         }
     }
 
-    pub fn reset(self, count: usize, seed: u32) -> Change
+    pub fn reset(self, count: usize, seed: u32) -> Change<()>
         ensures answers { result ≡ reset self count seed }
     {
-        if let Verdict::Refused(why) = checks::check_count(count) {
-            return Change {
-                answer: Outcome::Refused(why),
-                allocator: self,
-            };
-        }
-        Change {
-            answer: Outcome::Done,
-            allocator: Allocator {
-                page_count: count,
-                pages: [0u8; MARK_BYTES],
-                used: 0,
-                next_page_id: seed as usize % count,
-            },
-        }
+        let mut allocator = self;
+        let answer = work::reset(&mut allocator, count, seed);
+        Change { answer, allocator }
     }
 
     // The first free page from the next one on, wrapping round.
-    pub fn try_allocate(self) -> Allocation
+    #[tactic(auto, using(crate::proofs::HandedLaws::handed), unfolding(crate::specs::Calls::try_allocate))]
+    pub fn try_allocate(self) -> Change<Option<PageID>>
         ensures answers { result ≡ try_allocate self }
     {
-        if let Verdict::Refused(why) = checks::check_state(self) {
-            return Allocation {
-                answer: Allocated::Refused(why),
-                allocator: self,
-            };
+        if let Err(why) = checks::check_state(self) {
+            return Change::refused(why, self);
         }
-        let MaybePageID::Some(page) = marks::first_free(
-            &self.pages,
-            self.next_page_id,
-            self.page_count,
-        ) else {
-            return Allocation {
-                answer: Allocated::None,
-                allocator: self,
-            };
-        };
-        let p = page.index();
-        Allocation {
-            answer: Allocated::Page(page),
-            allocator: state::moved_past(state::marked(self, p), p),
-        }
+        let mut left = self;
+        let page = work::hand_out(&mut left);
+        Change::answered(page, left)
     }
 
-    pub fn mark_used(self, page: PageID) -> Change
+    pub fn mark_used(self, page: PageID) -> Change<()>
         ensures answers { result ≡ mark_used self page }
     {
-        if let Verdict::Refused(why) = checks::check_own_page(self, page) {
-            return Change {
-                answer: Outcome::Refused(why),
-                allocator: self,
-            };
-        }
-        let p = page.index();
-        if marks::is_marked(&self.pages, p) {
-            return Change {
-                answer: Outcome::Refused(Refusal::Corrupted),
-                allocator: self,
-            };
-        }
-        Change {
-            answer: Outcome::Done,
-            allocator: state::marked(self, p),
-        }
+        let mut allocator = self;
+        let answer = work::mark_used(&mut allocator, page);
+        Change { answer, allocator }
     }
 
-    pub fn free(self, page: PageID) -> Change
+    pub fn free(self, page: PageID) -> Change<()>
         ensures answers { result ≡ free self page }
     {
-        if let Verdict::Refused(why) = checks::check_own_page(self, page) {
-            return Change {
-                answer: Outcome::Refused(why),
-                allocator: self,
-            };
-        }
-        let p = page.index();
-        if !marks::is_marked(&self.pages, p) {
-            return Change {
-                answer: Outcome::Refused(Refusal::Corrupted),
-                allocator: self,
-            };
-        }
-        Change {
-            answer: Outcome::Done,
-            allocator: state::freed(self, p),
-        }
+        let mut allocator = self;
+        let answer = work::free(&mut allocator, page);
+        Change { answer, allocator }
     }
 
-    pub fn is_used(self, page: PageID) -> Usage
+    #[tactic(auto, using(crate::proofs::StateLaws::ranges), unfolding(crate::specs::Calls::is_used))]
+    pub fn is_used(self, page: PageID) -> Result<Usage, Refusal>
         ensures answers { result ≡ is_used self page }
     {
-        if let Verdict::Refused(why) = checks::check_own_page(self, page) {
-            return Usage::Refused(why);
-        }
+        checks::check_own_page(self, page)?;
         if marks::is_marked(&self.pages, page.index()) {
-            Usage::Used
+            Ok(Usage::Used)
         } else {
-            Usage::Free
+            Ok(Usage::Free)
         }
     }
 
-    pub fn used_pages(self) -> Count
+    #[tactic(auto, unfolding(crate::specs::Calls::used_pages))]
+    pub fn used_pages(self) -> Result<usize, Refusal>
         ensures answers { result ≡ used_pages self }
     {
-        match checks::check_state(self) {
-            Verdict::Fine => Count::Pages(self.used),
-            Verdict::Refused(why) => Count::Refused(why),
-        }
+        checks::check_state(self)?;
+        Ok(self.used)
     }
 
-    pub fn free_pages(self) -> Count
+    #[tactic(auto, unfolding(crate::specs::Calls::free_pages))]
+    pub fn free_pages(self) -> Result<usize, Refusal>
         ensures answers { result ≡ free_pages self }
     {
-        match checks::check_state(self) {
-            Verdict::Fine => Count::Pages(self.page_count - self.used),
-            Verdict::Refused(why) => Count::Refused(why),
-        }
+        checks::check_state(self)?;
+        Ok(self.page_count - self.used)
     }
 
-    pub fn page_count(self) -> Count
+    #[tactic(auto, unfolding(crate::specs::Calls::page_count))]
+    pub fn page_count(self) -> Result<usize, Refusal>
         ensures answers { result ≡ page_count self }
     {
-        match checks::check_state(self) {
-            Verdict::Fine => Count::Pages(self.page_count),
-            Verdict::Refused(why) => Count::Refused(why),
-        }
+        checks::check_state(self)?;
+        Ok(self.page_count)
     }
 
     // Free pages minus wanted ones.
-    pub fn margin(self, wanted: usize) -> Margin
+    #[tactic(auto, using(crate::proofs::MarginLaws::margins), unfolding(crate::specs::Calls::margin_of))]
+    pub fn margin(self, wanted: usize) -> Result<isize, Refusal>
         ensures answers { result ≡ margin_of self wanted }
     {
-        match checks::check_wanted(self, wanted) {
-            Verdict::Fine => Margin::Pages(
-                (self.page_count - self.used) as isize - wanted as isize,
-            ),
-            Verdict::Refused(why) => Margin::Refused(why),
-        }
+        checks::check_wanted(self, wanted)?;
+        Ok((self.page_count - self.used) as isize - wanted as isize)
     }
 }

@@ -8,3 +8,4 @@ pub mod checks;
 mod marks;
 pub mod several;
 mod state;
+mod work;

@@ -2,7 +2,7 @@
 ghost use Rattle.std.specs.Prelude.{◌≡◌, true, false, ◌+◌, ◌%◌, ◌≤◌, ◌<◌};
 ghost use Rattle.types.specs.Build.{max_page_count};
 ghost use Rattle.alloc.specs.Marks.{is_marked};
-ghost use Rattle.alloc.specs.State.{next_fits, in_range, marked, freed, moved_past};
+ghost use Rattle.alloc.specs.State.{next_fits, in_range, marked, freed};
 
 use crate::allocator::Allocator;
 use crate::marks;
@@ -14,68 +14,44 @@ fn next_fits(next: usize, count: usize) -> bool
     (next < count) | ((count == 0) & (next == 0))
 }
 
+#[tactic(auto, unfolding(crate::specs::State::in_range))]
 pub(crate) fn in_range(a: Allocator) -> bool
     ensures answers { result ≡ in_range a }
 {
     (a.page_count <= MAX_PAGE_COUNT)
         & next_fits(a.next_page_id, a.page_count)
-        & (a.used == marks::count_from(&a.pages, 0))
+        & (a.used == marks::count(&a.pages))
         & marks::none_from(&a.pages, a.page_count)
 }
 
 // Marks a free page, and counts it.
-pub(crate) fn marked(a: Allocator, p: usize) -> Allocator
+pub(crate) fn mark(a: &mut Allocator, p: usize)
     requires p_lt_max_page_count { p < max_page_count }
-    requires p_value { is_marked a.pages p ≡ false }
-    requires used_le_max_page_count { a.used ≤ max_page_count }
-    ensures answers { result ≡ marked a p }
+    requires p_value { is_marked a.old.pages p ≡ false }
+    requires used_le_max_page_count { a.old.used ≤ max_page_count }
+    ensures changes { a.new ≡ marked a.old p }
 {
-    let mut pages = a.pages;
-    marks::mark(&mut pages, p);
-    Allocator {
-        page_count: a.page_count,
-        pages,
-        used: a.used + 1,
-        next_page_id: a.next_page_id,
-    }
+    marks::mark(&mut a.pages, p);
+    a.used += 1;
 }
 
 // Frees a used page.
-pub(crate) fn freed(a: Allocator, p: usize) -> Allocator
+pub(crate) fn unmark(a: &mut Allocator, p: usize)
     requires p_lt_max_page_count { p < max_page_count }
-    requires p_value { is_marked a.pages p ≡ true }
-    requires le_used { 1 ≤ a.used }
-    ensures answers { result ≡ freed a p }
+    requires p_value { is_marked a.old.pages p ≡ true }
+    requires le_used { 1 ≤ a.old.used }
+    ensures changes { a.new ≡ freed a.old p }
 {
-    let mut pages = a.pages;
-    marks::unmark(&mut pages, p);
-    Allocator {
-        page_count: a.page_count,
-        pages,
-        used: a.used - 1,
-        next_page_id: a.next_page_id,
-    }
+    marks::unmark(&mut a.pages, p);
+    a.used -= 1;
 }
 
 // The page after page p, wrapping round at the count.
+#[tactic(auto, using(crate::proofs::StateLaws::ranges))]
 pub(crate) fn page_past(p: usize, count: usize) -> usize
     requires { p < count }
     ensures answers { result ≡ (p + 1) % count }
 {
     let next = p + 1;
     if next == count { 0 } else { next }
-}
-
-// The next search starts past page p.
-pub(crate) fn moved_past(a: Allocator, p: usize) -> Allocator
-    requires { p < a.page_count }
-    ensures answers { result ≡ moved_past a p }
-{
-    let pages = a.pages;
-    Allocator {
-        page_count: a.page_count,
-        pages,
-        used: a.used,
-        next_page_id: page_past(p, a.page_count),
-    }
 }

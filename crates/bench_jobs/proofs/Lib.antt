@@ -1,5 +1,4 @@
 mod AllocationLaws
 mod MergingLaws
 mod ReadingLaws
-mod SeveralLaws
 mod WritingLaws

@@ -1,20 +1,22 @@
 -- Every page allocated, and every page freed, by the allocator's calls, with a sum of their answers. Assumes nothing.
-use Rattle.std.specs.Prelude.{ℕ, zero, suc, ◌+◌}
+use Rattle.std.specs.declared.option.Option.{Option}
+use Rattle.std.specs.declared.result.Result.{Result}
+use Rattle.types.specs.declared.page_id.PageID.{PageID}
+use Rattle.types.specs.declared.refusal.Refusal.{Refusal}
+use Rattle.std.specs.Prelude.{ℕ, zero, suc, ◌+◌, Ok, Err, Some, None}
 use Rattle.types.specs.Build.{max_page_count}
 use Rattle.types.specs.Refusals.{number_of}
-use Rattle.types.specs.Answers.{outcome_told}
+use Rattle.types.specs.Answers.{number_told}
 use Rattle.alloc.specs.Calls.{reset, try_allocate, free}
 use Rattle.alloc.specs.State.{all_free}
-use Rattle.alloc.specs.declared.answers.Allocated.{Allocated}
-use Rattle.alloc.specs.declared.answers.Allocated.TheVariants.{Page, None, Refused}
 use Rattle.bench_jobs.specs.Telling.{mixed}
 use Rattle.bench_jobs.specs.declared.allocating.Tally.{Tally}
 
 -- an answer as one number
-abbrev pub code_of : Allocated → ℕ
-code_of (Page page) = page.0
-code_of None = 0x1_0000
-code_of (Refused why) = 0x1_0000 + number_of why
+abbrev pub code_of : Result (Option PageID) Refusal → ℕ
+code_of (Ok (Some page)) = page.0
+code_of (Ok None) = 0x1_0000
+code_of (Err why) = 0x1_0000 + number_of why
 
 abbrev pub allocate_one : Tally → Tally
 allocate_one t =
@@ -32,7 +34,7 @@ abbrev pub free_one : ℕ → Tally → Tally
 free_one p t =
     record {
       allocator = (free t.allocator (record { 0 = p })).allocator;
-      sum = mixed t.sum (outcome_told (free t.allocator (record { 0 = p })).answer).number;
+      sum = mixed t.sum (number_told (free t.allocator (record { 0 = p })).answer);
     }
 
 -- the first n pages freed, from page 0 on
@@ -45,7 +47,7 @@ abbrev pub reset_tally : ℕ → ℕ → Tally
 reset_tally count seed =
     record {
       allocator = (reset (all_free 0 0) count seed).allocator;
-      sum = (outcome_told (reset (all_free 0 0) count seed).answer).number;
+      sum = number_told (reset (all_free 0 0) count seed).answer;
     }
 
 -- as many pages as there can be, and each of them back

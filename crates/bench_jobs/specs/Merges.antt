@@ -1,15 +1,16 @@
 -- A merge of all runs, handed out entry by entry by the cursor's calls, with a sum of the entries. Assumes nothing.
-use Rattle.std.specs.Prelude.{Bool, cond, true, false, List, [], ℕ, zero, suc, eqb, length}
+use Rattle.cursor.specs.declared.answers.Entry.{Entry}
+use Rattle.std.specs.Result.{is_ok}
+use Rattle.std.specs.declared.option.Option.{Option}
+use Rattle.cursor.specs.Answers.{NextAnswer}
+use Rattle.std.specs.Prelude.{Bool, cond, true, false, List, [], ℕ, zero, suc, length, Ok, Err, Some, None, ⊤}
 use Rattle.types.specs.Refusals.{number_of}
 use Rattle.slices.specs.Fields.{field}
-use Rattle.run.specs.declared.bound.Bound.TheVariants.{Unbounded}
-use Rattle.types.specs.Answers.{outcome_told}
+use Rattle.run.specs.Kinds.{Unbounded}
+use Rattle.types.specs.Answers.{number_told}
 use Rattle.cursor.specs.New.{new_of}
 use Rattle.cursor.specs.Next.{next_of, next_key, next_value}
 use Rattle.cursor.specs.declared.answers.Moved.{Moved}
-use Rattle.cursor.specs.declared.answers.NewCursor.{NewCursor}
-use Rattle.cursor.specs.declared.answers.NextAnswer.{NextAnswer}
-use Rattle.cursor.specs.declared.answers.NextAnswer.TheVariants.{End, Entry, Refused}
 use Rattle.bench_jobs.specs.Telling.{mixed}
 use Rattle.bench_jobs.specs.declared.merging.Merging.{Merging}
 
@@ -24,17 +25,17 @@ merge_state m key value = record { merging = m; key = key; value = value }
 
 -- the sum with an entry: the lengths of key and value, and the first four bytes of each buffer
 unfoldable pub summed : ℕ → NextAnswer → List ℕ → List ℕ → ℕ
-summed sum End key value = sum
-summed sum (Entry key_len value_len) key value = mixed (mixed (mixed (mixed sum key_len) value_len) (field 4 key 0)) (field 4 value 0)
-summed sum (Refused why) key value = mixed sum (number_of why)
+summed sum (Ok None) key value = sum
+summed sum (Ok (Some entry)) key value = mixed (mixed (mixed (mixed sum entry.key_len) entry.value_len) (field 4 key 0)) (field 4 value 0)
+summed sum (Err why) key value = mixed sum (number_of why)
 
 abbrev pub is_entry : NextAnswer → Bool
-is_entry End = false
-is_entry (Entry key_len value_len) = true
-is_entry (Refused why) = false
+is_entry (Ok None) = false
+is_entry (Ok (Some entry)) = true
+is_entry (Err why) = false
 
 -- behind a call of next: only an entry goes on
-abbrev pub after_next : ℕ → Moved → List ℕ → List ℕ → MergeState
+abbrev pub after_next : ℕ → Moved (Option Entry) → List ℕ → List ℕ → MergeState
 after_next sum moved key value =
     record {
       merging = record { cursor = moved.cursor; sum = summed sum moved.answer key value; on = is_entry moved.answer };
@@ -55,8 +56,8 @@ merge_on zero runs ends s = s
 merge_on (suc n) runs ends s = cond s.merging.on (merge_on n runs ends (merge_one runs ends s)) s
 
 -- a cursor over all runs, from the first key on; a refused one does not go on
-abbrev pub merge_begun_by : NewCursor → Merging
-merge_begun_by made = record { cursor = made.cursor; sum = (outcome_told made.answer).number; on = eqb (outcome_told made.answer).number 0 }
+abbrev pub merge_begun_by : Moved ⊤ → Merging
+merge_begun_by made = record { cursor = made.cursor; sum = number_told made.answer; on = is_ok made.answer }
 
 unfoldable pub merge_begun : List ℕ → List ℕ → Merging
 merge_begun runs ends = merge_begun_by (new_of runs ends Unbounded [])

@@ -1,17 +1,15 @@
 -- A page, opened and read by the reader's calls into one buffer, up to a read that answers 0 or is refused. Assumes nothing.
-use Rattle.std.specs.Prelude.{cond, true, false, not, List, ◌++◌, ℕ, zero, suc, ◌+◌, min, eqb, length, take, drop}
+use Rattle.std.specs.Result.{result_unwrap_or}
+use Rattle.std.specs.declared.result.Result.{Result}
+use Rattle.types.specs.declared.refusal.Refusal.{Refusal}
+use Rattle.std.specs.Prelude.{cond, false, not, List, ◌++◌, ℕ, zero, suc, ◌+◌, min, eqb, length, take, drop, Ok, Err, ⊤}
 use Rattle.types.specs.Build.{page_size}
-use Rattle.types.specs.Refusals.{number_of}
+use Rattle.types.specs.Answers.{number_told}
 use Rattle.reader.specs.Calls.{open_page, read, read_bytes}
 use Rattle.reader.specs.States.{new_reader}
-use Rattle.reader.specs.declared.answers.Count.{Count}
-use Rattle.reader.specs.declared.answers.Count.TheVariants as count
-use Rattle.reader.specs.declared.answers.Opening.{Opening}
-use Rattle.types.specs.declared.answers.Outcome.{Outcome}
-use Rattle.types.specs.declared.answers.Outcome.TheVariants as outcome
 use Rattle.reader.specs.declared.answers.Passage.{Passage}
 use Rattle.reader.specs.declared.page_reader.PageReader.{PageReader}
-use Rattle.bench_jobs.specs.Telling.{packed}
+use Rattle.bench_jobs.specs.Telling.{begins, packed}
 use Rattle.bench_jobs.specs.declared.reading.Reading.{Reading}
 
 -- a reader on its way, and the buffer
@@ -27,11 +25,11 @@ abbrev pub next_at : List ℕ → Reading → ℕ
 next_at out r = min r.put (length out)
 
 -- after a read: nothing and a refusal end it
-abbrev pub after_read : ℕ → Count → PageReader → Reading
-after_read from (count.Bytes n) next = record { reader = next; put = from + n; on = not (eqb n 0); why = 0 }
-after_read from (count.Refused why) next = record { reader = next; put = from; on = false; why = number_of why }
+abbrev pub after_read : ℕ → Result ℕ Refusal → PageReader → Reading
+after_read from (Ok n) next = record { reader = next; put = from + n; goes_on = Ok (not (eqb n 0)) }
+after_read from (Err why) next = record { reader = next; put = from; goes_on = Err why }
 
-abbrev pub passed : ℕ → Passage → Reading
+abbrev pub passed : ℕ → Passage ℕ → Reading
 passed from p = after_read from p.answer p.reader
 
 -- a read into the buffer from there on
@@ -48,23 +46,19 @@ read_one flash s = read_from (next_at s.out s.reading) flash s
 -- at most n reads, while it goes on
 unfoldable pub read_while_on : ℕ → List ℕ → ReadState → ReadState
 read_while_on zero flash s = s
-read_while_on (suc n) flash s = cond s.reading.on (read_while_on n flash (read_one flash s)) s
+read_while_on (suc n) flash s = cond (result_unwrap_or s.reading.goes_on false) (read_while_on n flash (read_one flash s)) s
 
 -- each read but the last puts a byte or more, so a page has no more of them
 abbrev pub read_pieces : List ℕ → ReadState → ReadState
 read_pieces flash s = read_while_on (page_size + 1) flash s
 
 -- a reader that was opened, or refused
-abbrev pub reading_at : PageReader → Outcome → Reading
-reading_at reader outcome.Done = record { reader = reader; put = 0; on = true; why = 0 }
-reading_at reader (outcome.Refused why) = record { reader = reader; put = 0; on = false; why = number_of why }
-
-abbrev pub opened_as : Opening → Reading
-opened_as o = reading_at o.reader o.answer
+abbrev pub reading_at : Passage ⊤ → Reading
+reading_at opening = record { reader = opening.reader; put = 0; goes_on = begins opening.answer }
 
 -- the job: a new reader is opened on a page with h bytes of higher header, and reads all of it
 unfoldable pub read_page : List ℕ → ℕ → ℕ → ℕ → List ℕ → ReadState
-read_page flash magic page h out = read_pieces flash (read_state (opened_as (open_page new_reader flash magic (record { 0 = page }) h)) out)
+read_page flash magic page h out = read_pieces flash (read_state (reading_at (open_page new_reader flash magic (record { 0 = page }) h)) out)
 
 abbrev pub packed_of : ReadState → ℕ
-packed_of s = packed s.reading.why s.reading.put
+packed_of s = packed (number_told s.reading.goes_on) s.reading.put

@@ -1,39 +1,34 @@
 -- Pages allocated by one call, and freed by one. Assumes nothing.
-use Rattle.std.specs.Prelude.{List, ℕ, ◌+◌, length, take}
+use Rattle.std.specs.Result.{result_unwrap_or}
+use Rattle.std.specs.declared.result.Result.{Result}
+use Rattle.types.specs.declared.refusal.Refusal.{Refusal}
+use Rattle.std.specs.Prelude.{List, ℕ, ◌+◌, length, take, Ok, Err, ⊤}
 use Rattle.types.specs.Refusals.{number_of}
-use Rattle.types.specs.Answers.{outcome_told}
+use Rattle.types.specs.Answers.{number_told}
 use Rattle.alloc.specs.Calls.{free_pages}
 use Rattle.alloc.specs.Several.{try_allocate_each, places_after, free_each}
 use Rattle.alloc.specs.declared.allocator.Allocator.{Allocator}
-use Rattle.alloc.specs.declared.answers.Allocations.{Allocations}
 use Rattle.alloc.specs.declared.answers.Change.{Change}
-use Rattle.alloc.specs.declared.answers.Count.{Count}
-use Rattle.alloc.specs.declared.answers.Count.TheVariants.{Pages, Refused}
 use Rattle.bench_jobs.specs.Allocations.{reset_tally}
 use Rattle.bench_jobs.specs.Telling.{mixed}
 use Rattle.bench_jobs.specs.declared.allocating.Tally.{Tally}
 
--- how many pages
-abbrev pub pages_of : Count → ℕ
-pages_of (Pages n) = n
-pages_of (Refused why) = 0
-
 -- an answer as one number
-abbrev pub count_code : Count → ℕ
-count_code (Pages n) = n
-count_code (Refused why) = 0x1_0000 + number_of why
+abbrev pub count_code : Result ℕ Refusal → ℕ
+count_code (Ok n) = n
+count_code (Err why) = 0x1_0000 + number_of why
 
 -- the sum with what freeing answers, and with how many pages are free then
-abbrev pub summed_up : ℕ → Change → ℕ
-summed_up sum c = mixed (mixed sum (outcome_told c.answer).number) (count_code (free_pages c.allocator))
+abbrev pub summed_up : ℕ → Change ⊤ → ℕ
+summed_up sum c = mixed (mixed sum (number_told c.answer)) (count_code (free_pages c.allocator))
 
 -- the first n of these pages freed
 abbrev pub given_back : ℕ → Allocator → ℕ → List ℕ → ℕ
 given_back sum a n places = summed_up sum (free_each a (take n places))
 
 -- how many pages were handed out goes into the sum, and they are freed
-abbrev pub each_sum : ℕ → Allocations → List ℕ → ℕ
-each_sum sum given places = given_back (mixed sum (count_code given.answer)) given.allocator (pages_of given.answer) places
+abbrev pub each_sum : ℕ → Change ℕ → List ℕ → ℕ
+each_sum sum given places = given_back (mixed sum (count_code given.answer)) given.allocator (result_unwrap_or given.answer 0) places
 
 -- the job, once the allocator is reset
 abbrev each_after : Tally → List ℕ → ℕ

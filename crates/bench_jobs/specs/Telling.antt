@@ -1,5 +1,12 @@
 -- What a job tells in one number. Assumes nothing.
-use Rattle.std.specs.Prelude.{ℕ, ◌+◌, ◌*◌, ◌%◌}
+use Rattle.std.specs.declared.result.Result.{Result}
+use Rattle.std.specs.Prelude.{Bool, true, ℕ, ◌+◌, ◌*◌, ◌%◌, Ok, Err, ⊤}
+use Rattle.types.specs.declared.refusal.Refusal.{Refusal}
+
+-- whether a job goes on that was begun, or why it was refused
+abbrev pub begins : Result ⊤ Refusal → Result Bool Refusal
+begins (Ok done) = Ok true
+begins (Err why) = Err why
 
 -- a running sum with one more number in it; the order in which numbers go in shows
 abbrev pub mixed : ℕ → ℕ → ℕ

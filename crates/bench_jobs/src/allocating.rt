@@ -5,9 +5,10 @@ ghost use Rattle.bench_jobs.specs.Allocations.{code_of, allocate_one, allocate_f
 
 use crate::telling::mixed;
 use alloc::allocator::Allocator;
-use alloc::answers::Allocated;
+use types::answers::Answer;
 use types::config::MAX_PAGE_COUNT;
 use types::page_id::PageID;
+use types::refusal::Refusal;
 
 // An allocator, and the sum of what it answered so far.
 #[derive(Clone, Copy)]
@@ -17,26 +18,23 @@ pub struct Tally {
 }
 
 // An answer as one number.
-fn code_of(answer: Allocated) -> u64
+fn code_of(answer: Result<Option<PageID>, Refusal>) -> u64
     ensures answers { result ≡ code_of answer }
 {
     match answer {
-        Allocated::Page(page) => page.0 as u64,
-        Allocated::None => 0x1_0000,
-        Allocated::Refused(why) => 0x1_0000 + why.number() as u64,
+        Ok(Some(page)) => page.0 as u64,
+        Ok(None) => 0x1_0000,
+        Err(why) => 0x1_0000 + why.number() as u64,
     }
 }
 
 fn allocate_one(t: Tally) -> Tally
     ensures answers { result ≡ allocate_one t }
 {
-    let a = t.allocator;
-    let allocation = a.try_allocate();
-    let answer = allocation.answer;
-    let allocator = allocation.allocator;
+    let allocation = t.allocator.try_allocate();
     Tally {
-        allocator,
-        sum: mixed(t.sum, code_of(answer)),
+        allocator: allocation.allocator,
+        sum: mixed(t.sum, code_of(allocation.answer)),
     }
 }
 
@@ -44,10 +42,8 @@ fn allocate_first(start: Tally) -> Tally
     ensures answers { result ≡ allocate_first max_page_count start }
 {
     let mut t = start;
-    let mut i: usize = 0;
-    while i < MAX_PAGE_COUNT {
+    for i in 0..MAX_PAGE_COUNT {
         t = allocate_one(t);
-        i += 1;
     }
     t
 }
@@ -55,13 +51,10 @@ fn allocate_first(start: Tally) -> Tally
 fn free_one(t: Tally, page: u16) -> Tally
     ensures answers { result ≡ free_one page t }
 {
-    let a = t.allocator;
-    let change = a.free(PageID(page));
-    let answer = change.answer;
-    let allocator = change.allocator;
+    let change = t.allocator.free(PageID(page));
     Tally {
-        allocator,
-        sum: mixed(t.sum, answer.number() as u64),
+        allocator: change.allocator,
+        sum: mixed(t.sum, change.answer.number() as u64),
     }
 }
 
@@ -69,10 +62,8 @@ fn free_first(start: Tally) -> Tally
     ensures answers { result ≡ free_first max_page_count start }
 {
     let mut t = start;
-    let mut i: usize = 0;
-    while i < MAX_PAGE_COUNT {
+    for i in 0..MAX_PAGE_COUNT {
         t = free_one(t, i as u16);
-        i += 1;
     }
     t
 }
@@ -81,19 +72,17 @@ pub(crate) fn reset_tally(count: usize, seed: u32) -> Tally
     ensures answers { result ≡ reset_tally count seed }
 {
     let change = Allocator::new().reset(count, seed);
-    let answer = change.answer;
-    let allocator = change.allocator;
     Tally {
-        allocator,
-        sum: answer.number() as u64,
+        allocator: change.allocator,
+        sum: change.answer.number() as u64,
     }
 }
 
 // Resets a new allocator, asks it for as many pages as there can be, and gives each of them back. The answers' sum.
+#[tactic(auto, unfolding(crate::specs::Allocations::alloc_cycle))]
 #[unsafe(no_mangle)]
 pub extern "C" fn puffcradle_alloc_cycle(count: usize, seed: u32) -> u64
     ensures answers { result ≡ alloc_cycle count seed }
 {
-    let t = free_first(allocate_first(reset_tally(count, seed)));
-    t.sum
+    free_first(allocate_first(reset_tally(count, seed))).sum
 }

@@ -3,10 +3,11 @@ ghost use Rattle.std.specs.Prelude.{◌≡◌};
 ghost use Rattle.bench_jobs.specs.Merges.{merge_state, summed, is_entry, merge_one, merge_begun, merge_all};
 
 use crate::telling::mixed;
-use cursor::answers::NextAnswer;
+use cursor::answers::{Entry, NextAnswer};
 use cursor::place::Cursor;
-use run::bound::Bound;
 use slices::field::get32;
+use std::ops::Bound;
+use types::answers::Answer;
 
 // A cursor on its way, the sum of what it handed out, and whether it goes on.
 #[derive(Clone, Copy)]
@@ -17,16 +18,17 @@ pub struct Merging {
 }
 
 // The sum with an entry: the lengths of key and value, and the first four bytes of each buffer.
+#[tactic(auto, unfolding(crate::specs::Merges::summed))]
 fn summed(sum: u64, answer: NextAnswer, key: &[u8], value: &[u8]) -> u64
     ensures answers { result ≡ summed sum answer key.now value.now }
 {
     match answer {
-        NextAnswer::End => sum,
-        NextAnswer::Entry { key_len, value_len } => {
+        Ok(None) => sum,
+        Ok(Some(Entry { key_len, value_len })) => {
             let lengths = mixed(mixed(sum, key_len as u64), value_len as u64);
             mixed(mixed(lengths, get32(key, 0) as u64), get32(value, 0) as u64)
         }
-        NextAnswer::Refused(why) => mixed(sum, why.number() as u64),
+        Err(why) => mixed(sum, why.number() as u64),
     }
 }
 
@@ -34,44 +36,36 @@ fn is_entry(answer: NextAnswer) -> bool
     ensures answers { result ≡ is_entry answer }
 {
     match answer {
-        NextAnswer::End => false,
-        NextAnswer::Entry {
-            key_len: _,
-            value_len: _,
-        } => true,
-        NextAnswer::Refused(_) => false,
+        Ok(Some(_)) => true,
+        Ok(None) | Err(_) => false,
     }
 }
 
 // One call of next, without an upper bound.
+#[tactic(auto, unfolding(crate::specs::Merges::merge_one))]
 fn merge_one(m: Merging, runs: &[u8], ends: &[usize], key: &mut [u8], value: &mut [u8]) -> Merging
     ensures answers { result ≡ (merge_one runs.now ends.now (merge_state m key.old value.old)).merging }
     ensures bytes { (key.new ≡ (merge_one runs.now ends.now (merge_state m key.old value.old)).key)
         × (value.new ≡ (merge_one runs.now ends.now (merge_state m key.old value.old)).value) }
 {
-    let c = m.cursor;
-    let moved = c.next(runs, ends, Bound::Unbounded, &runs[..0], key, value);
-    let answer = moved.answer;
-    let cursor = moved.cursor;
+    let moved = m.cursor.next(runs, ends, Bound::Unbounded, key, value);
     Merging {
-        cursor,
-        sum: summed(m.sum, answer, key, value),
-        on: is_entry(answer),
+        cursor: moved.cursor,
+        sum: summed(m.sum, moved.answer, key, value),
+        on: is_entry(moved.answer),
     }
 }
 
 // A cursor over all runs, from the first key on.
+#[tactic(auto, unfolding(crate::specs::Merges::merge_begun))]
 fn merge_begun(runs: &[u8], ends: &[usize]) -> Merging
     ensures answers { result ≡ merge_begun runs.now ends.now }
 {
-    let made = Cursor::new(runs, ends, Bound::Unbounded, &runs[..0]);
-    let answer = made.answer;
-    let cursor = made.cursor;
-    let no = answer.number();
+    let made = Cursor::new(runs, ends, Bound::Unbounded);
     Merging {
-        cursor,
-        sum: no as u64,
-        on: no == 0,
+        cursor: made.cursor,
+        sum: made.answer.number() as u64,
+        on: made.answer.is_ok(),
     }
 }
 
@@ -89,12 +83,10 @@ pub extern "C" fn puffcradle_merge(
         × (value.new ≡ (merge_all most runs.now ends.now key.old value.old).value) }
 {
     let mut m = merge_begun(runs, ends);
-    let mut left = most;
-    while 0 < left {
+    for i in 0..most {
         if !m.on {
             return m.sum;
         }
-        left -= 1;
         m = merge_one(m, runs, ends, key, value);
     }
     m.sum

@@ -5,44 +5,40 @@ ghost use Rattle.reader.specs.States.{new_reader};
 ghost use Rattle.bench_jobs.specs.Readings.{read_state, read_one, read_pieces, reading_at, read_page, packed_of};
 
 use crate::telling::packed;
-use reader::answers::Count;
+use reader::answers::Passage;
 use reader::page_reader::PageReader;
-use types::answers::Outcome;
+use std::cmp::Ord;
+use types::answers::Answer;
 use types::config::PAGE_SIZE;
-use types::num::min;
 use types::page_id::PageID;
+use types::refusal::Refusal;
 
-// A reader on its way: how many bytes it put, whether it goes on, and the number of the row that refused.
+// A reader on its way: how many bytes it put, and whether it goes on, or why it was refused.
 #[derive(Clone, Copy)]
 pub struct Reading {
     pub reader: PageReader,
     pub put: usize,
-    pub on: bool,
-    pub why: u8,
+    pub goes_on: Result<bool, Refusal>,
 }
 
 // One read, behind what was put so far. A read of nothing is the last.
+#[tactic(auto, unfolding(crate::specs::Readings::read_one))]
 fn read_one(r: Reading, flash: &[u8], out: &mut [u8]) -> Reading
     ensures answers { result ≡ (read_one flash.now (read_state r out.old)).reading }
     ensures bytes { out.new ≡ (read_one flash.now (read_state r out.old)).out }
 {
-    let from = min(r.put, out.len());
-    let reader = r.reader;
-    let passage = reader.read(flash, &mut out[from..]);
-    let answer = passage.answer;
-    let next = passage.reader;
-    match answer {
-        Count::Bytes(n) => Reading {
-            reader: next,
+    let from = r.put.min(out.len());
+    let passage = r.reader.read(flash, &mut out[from..]);
+    match passage.answer {
+        Ok(n) => Reading {
+            reader: passage.reader,
             put: from + n,
-            on: n != 0,
-            why: 0,
+            goes_on: Ok(n != 0),
         },
-        Count::Refused(why) => Reading {
-            reader: next,
+        Err(why) => Reading {
+            reader: passage.reader,
             put: from,
-            on: false,
-            why: why.number(),
+            goes_on: Err(why),
         },
     }
 }
@@ -53,38 +49,28 @@ fn read_pieces(start: Reading, flash: &[u8], out: &mut [u8]) -> Reading
     ensures bytes { out.new ≡ (read_pieces flash.now (read_state start out.old)).out }
 {
     let mut r = start;
-    let mut left = PAGE_SIZE + 1;
-    while 0 < left {
-        if !r.on {
+    for i in 0..PAGE_SIZE + 1 {
+        if !r.goes_on.unwrap_or(false) {
             return r;
         }
-        left -= 1;
         r = read_one(r, flash, out);
     }
     r
 }
 
 // A reader that was opened, or refused.
-fn reading_at(reader: PageReader, answer: Outcome) -> Reading
-    ensures answers { result ≡ reading_at reader answer }
+fn reading_at(opening: Passage<()>) -> Reading
+    ensures answers { result ≡ reading_at opening }
 {
-    match answer {
-        Outcome::Done => Reading {
-            reader,
-            put: 0,
-            on: true,
-            why: 0,
-        },
-        Outcome::Refused(why) => Reading {
-            reader,
-            put: 0,
-            on: false,
-            why: why.number(),
-        },
+    Reading {
+        reader: opening.reader,
+        put: 0,
+        goes_on: opening.answer.map(|()| true),
     }
 }
 
 // Opens a page and reads it to its end or its first empty chunk, or as far as there is room. What was put, and why it was refused.
+#[tactic(auto, unfolding(crate::specs::Readings::read_page))]
 #[unsafe(no_mangle)]
 pub extern "C" fn puffcradle_read_page(
     flash: &[u8],
@@ -98,8 +84,6 @@ pub extern "C" fn puffcradle_read_page(
     ensures out { out.new ≡ (read_page flash.now magic page (length header.old) out.old).out }
 {
     let opening = PageReader::new().open(flash, magic, PageID(page), header);
-    let answer = opening.answer;
-    let reader = opening.reader;
-    let r = read_pieces(reading_at(reader, answer), flash, out);
-    packed(r.why, r.put)
+    let r = read_pieces(reading_at(opening), flash, out);
+    packed(r.goes_on.number(), r.put)
 }

@@ -1,42 +1,33 @@
 // Pages allocated by one call, and freed by one.
 ghost use Rattle.std.specs.Prelude.{◌≡◌};
-ghost use Rattle.bench_jobs.specs.Several.{pages_of, count_code, summed_up, given_back, alloc_each, each_places};
+ghost use Rattle.bench_jobs.specs.Several.{count_code, summed_up, given_back, alloc_each, each_places};
 
 use crate::allocating::reset_tally;
 use crate::telling::mixed;
 use alloc::allocator::Allocator;
-use alloc::answers::{Change, Count};
+use alloc::answers::Change;
 use alloc::several::{free_each, try_allocate_each};
-use types::num::min;
-
-fn pages_of(answer: Count) -> usize
-    ensures answers { result ≡ pages_of answer }
-{
-    match answer {
-        Count::Pages(n) => n,
-        Count::Refused(_) => 0,
-    }
-}
+use std::cmp::Ord;
+use types::answers::Answer;
+use types::refusal::Refusal;
 
 // An answer as one number.
-fn count_code(answer: Count) -> u64
+fn count_code(answer: Result<usize, Refusal>) -> u64
     ensures answers { result ≡ count_code answer }
 {
     match answer {
-        Count::Pages(n) => n as u64,
-        Count::Refused(why) => 0x1_0000 + why.number() as u64,
+        Ok(n) => n as u64,
+        Err(why) => 0x1_0000 + why.number() as u64,
     }
 }
 
 // The sum with what freeing answered, and with how many pages are free then.
-fn summed_up(sum: u64, change: Change) -> u64
+fn summed_up(sum: u64, change: Change<()>) -> u64
     ensures answers { result ≡ summed_up sum change }
 {
-    let answer = change.answer;
-    let left = change.allocator;
     mixed(
-        mixed(sum, answer.number() as u64),
-        count_code(left.free_pages()),
+        mixed(sum, change.answer.number() as u64),
+        count_code(change.allocator.free_pages()),
     )
 }
 
@@ -44,25 +35,23 @@ fn summed_up(sum: u64, change: Change) -> u64
 fn given_back(sum: u64, a: Allocator, n: usize, places: &[u16]) -> u64
     ensures answers { result ≡ given_back sum a n places.now }
 {
-    let end = min(places.len(), n);
-    summed_up(sum, free_each(a, &places[0..end]))
+    let end = n.min(places.len());
+    summed_up(sum, free_each(a, &places[..end]))
 }
 
 // Resets a new allocator, asks it for a page for each place, and gives all of them back. The answers' sum.
+#[tactic(auto, unfolding(crate::specs::Several::alloc_each, crate::specs::Several::each_places))]
 #[unsafe(no_mangle)]
 pub extern "C" fn puffcradle_alloc_each(count: usize, seed: u32, places: &mut [u16]) -> u64
     ensures answers { result ≡ alloc_each count seed places.old }
     ensures bytes { places.new ≡ each_places count seed places.old }
 {
     let t = reset_tally(count, seed);
-    let a = t.allocator;
-    let given = try_allocate_each(a, places);
-    let answer = given.answer;
-    let left = given.allocator;
+    let given = try_allocate_each(t.allocator, places);
     given_back(
-        mixed(t.sum, count_code(answer)),
-        left,
-        pages_of(answer),
+        mixed(t.sum, count_code(given.answer)),
+        given.allocator,
+        given.answer.unwrap_or(0),
         places,
     )
 }

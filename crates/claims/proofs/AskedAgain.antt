@@ -1,5 +1,9 @@
 -- ASKED AGAIN: a refused call of a reader or of a cursor, made again with what it handed back, is refused with the same number and
 -- hands over no byte. Assumes nothing.
+use Rattle.cursor.specs.declared.answers.Entry.{Entry}
+use Rattle.std.specs.declared.option.Option.{Option}
+use Rattle.std.specs.Prelude.{Ok, Err}
+use Rattle.std.specs.declared.result.Result.{Result}
 use mathlib.Core.Path.{◌≡◌, refl, sym, ◌∙◌, ap, ap₂}
 use mathlib.Core.List.{List}
 use Prim.Native.Nat.{ℕ}
@@ -7,51 +11,27 @@ use lib.ListN.{length}
 use Rattle.types.specs.Refusals.{number_of}
 use Rattle.types.specs.declared.page_id.PageID.{PageID}
 use Rattle.types.specs.declared.refusal.Refusal.{Refusal}
-use Rattle.run.specs.declared.bound.Bound.{Bound}
-use Rattle.types.specs.Answers.{outcome_told, page_of_told}
-use Rattle.reader.specs.Answers.{count_told, end_test_told, dehydration_told}
+use Rattle.run.specs.Kinds.{Bound}
+use Rattle.types.specs.Answers.{number_told}
 use Rattle.reader.specs.Calls.{read_header, open_page, read, skip, is_at_eof, dehydrate, rehydrate_from, page_id}
-use Rattle.reader.specs.declared.answers.Count.{Count}
-use Rattle.reader.specs.declared.answers.Count.TheVariants as count
-use Rattle.reader.specs.declared.answers.EndTest.{EndTest}
-use Rattle.reader.specs.declared.answers.EndTest.TheVariants as end_test
-use Rattle.types.specs.declared.answers.Outcome.{Outcome}
-use Rattle.types.specs.declared.answers.Outcome.TheVariants as outcome
 use Rattle.reader.specs.declared.answers.Passage.{Passage}
 use Rattle.reader.specs.declared.page_reader.PageReader.{PageReader}
 use Rattle.reader.proofs.AgainLaws.{read-refused-so, skip-kept, eof-kept, open-reader-kept, rehydrate-kept}
 use Rattle.reader.proofs.OpenLaws.{read-header-kept, open_kept as open-bytes-kept}
-use Rattle.cursor.specs.Answers.{next_told}
+use Rattle.cursor.specs.Answers.{NextAnswer}
 use Rattle.cursor.specs.New.{new_of}
 use Rattle.cursor.specs.Next.{next_of}
 use Rattle.cursor.specs.declared.answers.Moved.{Moved}
-use Rattle.cursor.specs.declared.answers.NextAnswer.{NextAnswer}
-use Rattle.cursor.specs.declared.answers.NextAnswer.TheVariants as next
 use Rattle.cursor.specs.declared.place.Cursor.{Cursor}
 use Rattle.cursor.proofs.AgainLaws.{next-again, key-kept, value-kept}
 use Rattle.cursor.proofs.NoCursorLaws.{new-refused-empty, none-handed}
 use Rattle.claims.specs.Again.{Left, IsRefused, AskedAgain, Buffers, Rooms, rooms_of, next_left}
 use Rattle.claims.specs.Again.{Slots, ReaderCall, reads_header, opens, reads, skips, asks_for_its_end, dehydrates, rehydrates, asks_its_page, same_room, reader_left}
 
--- ---- a number other than 0 is a refusal's
-
-count-refused : (a : Count) → ((count_told a).number ≡ 0 → ⊥) → (w : Refusal) × (a ≡ count.Refused w)
-count-refused (count.Bytes n) e = absurd (e refl)
-count-refused (count.Refused w) e = (w, refl)
-
-end_test-refused : (a : EndTest) → ((end_test_told a).number ≡ 0 → ⊥) → (w : Refusal) × (a ≡ end_test.Refused w)
-end_test-refused end_test.AtEnd e = absurd (e refl)
-end_test-refused end_test.More e = absurd (e refl)
-end_test-refused (end_test.Refused w) e = (w, refl)
-
-outcome-refused : (a : Outcome) → ((outcome_told a).number ≡ 0 → ⊥) → (w : Refusal) × (a ≡ outcome.Refused w)
-outcome-refused outcome.Done e = absurd (e refl)
-outcome-refused (outcome.Refused w) e = (w, refl)
-
-next-refused : (a : NextAnswer) → ((next_told a).number ≡ 0 → ⊥) → (w : Refusal) × (a ≡ next.Refused w)
-next-refused next.End e = absurd (e refl)
-next-refused (next.Entry k v) e = absurd (e refl)
-next-refused (next.Refused w) e = (w, refl)
+-- a number other than 0 is a refusal's
+pub refused-by : {A : Type 0} (a : Result A Refusal) → (number_told a ≡ 0 → ⊥) → (w : Refusal) × (a ≡ Err w)
+refused-by (Ok x) e = absurd (e refl)
+refused-by (Err w) e = (w, refl)
 
 -- ---- a call that leaves all is the same call when it is made again
 
@@ -80,60 +60,60 @@ module _ (flash : List ℕ) (slots : Slots) (r : PageReader) where
   header-kept : (magic : ℕ) (page : PageID) (buffer : List ℕ) → IsRefused (reader_left flash slots (reads_header magic page) r buffer) → Kept (reads_header magic page) buffer
   unfolding reader_left
   header-kept magic page buffer e =
-      let w = outcome-refused (read_header flash magic page (length buffer)) e in (
+      let w = refused-by (read_header flash magic page (length buffer)) e in (
         number_of w.0,
         λ other q.
-            let a : read_header flash magic page (length other) ≡ outcome.Refused w.0 = rw q w.1 in
-            left_is _ _ _ _ _ _ (ap (λ (x : Outcome). (outcome_told x).number) a) refl (sym (read-header-kept flash magic page other w.0 a)),
+            let a : read_header flash magic page (length other) ≡ Err w.0 = rw q w.1 in
+            left_is _ _ _ _ _ _ (ap number_told a) refl (sym (read-header-kept flash magic page other w.0 a)),
       )
 
   open_kept : (magic : ℕ) (page : PageID) (buffer : List ℕ) → IsRefused (reader_left flash slots (opens magic page) r buffer) → Kept (opens magic page) buffer
   unfolding reader_left
   open_kept magic page buffer e =
-      let w = outcome-refused (open_page r flash magic page (length buffer)).answer e in (
+      let w = refused-by (open_page r flash magic page (length buffer)).answer e in (
         number_of w.0,
         λ other q.
-            let a : (open_page r flash magic page (length other)).answer ≡ outcome.Refused w.0 = rw q w.1 in
-            left_is _ _ _ _ _ _ (ap (λ (x : Outcome). (outcome_told x).number) a) (open-reader-kept r flash w.0 magic page (length other) a)
+            let a : (open_page r flash magic page (length other)).answer ≡ Err w.0 = rw q w.1 in
+            left_is _ _ _ _ _ _ (ap number_told a) (open-reader-kept r flash w.0 magic page (length other) a)
             (sym (open-bytes-kept flash magic page other w.0 r a)),
       )
 
   read_kept : (buffer : List ℕ) → IsRefused (reader_left flash slots reads r buffer) → Kept reads buffer
   unfolding reader_left
   read_kept buffer e =
-      let w = count-refused (read r flash (length buffer)).answer e in (
+      let w = refused-by (read r flash (length buffer)).answer e in (
         number_of w.0,
         λ other q.
             let k = read-refused-so r flash w.0 (length buffer) w.1 (length other) other in
-            left_is _ _ _ _ _ _ (ap (λ (x : Passage). (count_told x.answer).number) k.0) (ap (λ (x : Passage). x.reader) k.0) k.1.0,
+            left_is _ _ _ _ _ _ (ap (λ (x : Passage ℕ). number_told x.answer) k.0) (ap (λ (x : Passage ℕ). x.reader) k.0) k.1.0,
       )
 
   skip-left : (n : ℕ) (buffer : List ℕ) → IsRefused (reader_left flash slots (skips n) r buffer) → Kept (skips n) buffer
   unfolding reader_left
   skip-left n buffer e =
-      let w = count-refused (skip r flash n).answer e in
-      (number_of w.0, λ other q. left_is _ _ _ _ _ _ (ap (λ (x : Count). (count_told x).number) w.1) (skip-kept r flash w.0 n w.1) refl)
+      let w = refused-by (skip r flash n).answer e in
+      (number_of w.0, λ other q. left_is _ _ _ _ _ _ (ap number_told w.1) (skip-kept r flash w.0 n w.1) refl)
 
   eof-left : (buffer : List ℕ) → IsRefused (reader_left flash slots asks_for_its_end r buffer) → Kept asks_for_its_end buffer
   unfolding reader_left
   eof-left buffer e =
-      let w = end_test-refused (is_at_eof r flash).answer e in
-      (number_of w.0, λ other q. left_is _ _ _ _ _ _ (ap (λ (x : EndTest). (end_test_told x).number) w.1) (eof-kept r flash w.0 w.1) refl)
+      let w = refused-by (is_at_eof r flash).answer e in
+      (number_of w.0, λ other q. left_is _ _ _ _ _ _ (ap number_told w.1) (eof-kept r flash w.0 w.1) refl)
 
   rehydrate-left : (slot : ℕ) (buffer : List ℕ) → IsRefused (reader_left flash slots (rehydrates slot) r buffer) → Kept (rehydrates slot) buffer
   unfolding reader_left
   rehydrate-left slot buffer e =
       let d = slots slot in
-      let w = outcome-refused (rehydrate_from r flash d).answer e in
-      (number_of w.0, λ other q. left_is _ _ _ _ _ _ (ap (λ (x : Outcome). (outcome_told x).number) w.1) (rehydrate-kept r flash w.0 d w.1) refl)
+      let w = refused-by (rehydrate_from r flash d).answer e in
+      (number_of w.0, λ other q. left_is _ _ _ _ _ _ (ap number_told w.1) (rehydrate-kept r flash w.0 d w.1) refl)
 
   dehydrate-left : (slot : ℕ) (buffer : List ℕ) → Kept (dehydrates slot) buffer
   unfolding reader_left
-  dehydrate-left slot buffer = ((dehydration_told (dehydrate r)).number, λ other q. refl)
+  dehydrate-left slot buffer = (number_told (dehydrate r), λ other q. refl)
 
   page-left : (buffer : List ℕ) → Kept asks_its_page buffer
   unfolding reader_left
-  page-left buffer = ((page_of_told (page_id r)).number, λ other q. refl)
+  page-left buffer = (number_told (page_id r), λ other q. refl)
 
   pub kept : (call : ReaderCall) (buffer : List ℕ) → IsRefused (reader_left flash slots call r buffer) → Kept call buffer
   kept (reads_header magic page) buffer e = header-kept magic page buffer e
@@ -162,12 +142,12 @@ read-asked-again flash slots r buffer other e = (asked-again flash slots reads r
 module _ (bytes ends : List ℕ) (bound : Bound) (upper : List ℕ) where
   -- where next is refused, and hands back this cursor
   next-left : (c t : Cursor) (b : Buffers) (w : Refusal)
-      → next_of bytes ends bound upper c (length b.key) (length b.value) ≡ record { cursor = t; answer = next.Refused w }
+      → next_of bytes ends bound upper c (length b.key) (length b.value) ≡ record { cursor = t; answer = Err w }
       → next_left bytes ends bound upper c b ≡ record { number = number_of w; state = t; lent = b }
   unfolding next_left
   next-left c t b w e =
-      let a : (next_of bytes ends bound upper c (length b.key) (length b.value)).answer ≡ next.Refused w = ap (λ (m : Moved). m.answer) e in
-      ap₂ (λ (m : Moved) (x : Buffers). record { number = (next_told m.answer).number; state = m.cursor; lent = x }) e
+      let a : (next_of bytes ends bound upper c (length b.key) (length b.value)).answer ≡ Err w = ap (λ (m : Moved (Option Entry)). m.answer) e in
+      ap₂ (λ (m : Moved (Option Entry)) (x : Buffers). record { number = number_told m.answer; state = m.cursor; lent = x }) e
       (ap₂ (λ (k v : List ℕ). record { key = k; value = v }) (key-kept bytes ends bound upper c b.key b.value w a) (value-kept bytes ends bound upper c b.key b.value w a))
 
   -- ASKED AGAIN, of a cursor: what passes that ended stepped over, and runs found gone, stay so; the refusal is the same
@@ -175,9 +155,9 @@ module _ (bytes ends : List ℕ) (bound : Bound) (upper : List ℕ) where
       → AskedAgain rooms_of (next_left bytes ends bound upper) c b
   unfolding next_left
   next-asked-again c b e =
-      let m : Moved = next_of bytes ends bound upper c (length b.key) (length b.value) in
-      let w = next-refused m.answer e in
-      let is : m ≡ record { cursor = m.cursor; answer = next.Refused w.0 } = ap (λ (a : NextAnswer). record { cursor = m.cursor; answer = a }) w.1 in
+      let m : (Moved (Option Entry)) = next_of bytes ends bound upper c (length b.key) (length b.value) in
+      let w = refused-by m.answer e in
+      let is : m ≡ record { cursor = m.cursor; answer = Err w.0 } = ap (λ (a : NextAnswer). record { cursor = m.cursor; answer = a }) w.1 in
       settles rooms_of (next_left bytes ends bound upper) c b (number_of w.0) m.cursor (next-left c m.cursor b w.0 is)
       (λ (other : Buffers) (q : rooms_of other ≡ rooms_of b).
       next-left m.cursor m.cursor other w.0
@@ -185,10 +165,10 @@ module _ (bytes ends : List ℕ) (bound : Bound) (upper : List ℕ) where
       ∙ next-again bytes ends bound upper (length b.key) (length b.value) w.0 c w.1 ∙ is))
 
 -- a refused new hands back a cursor from which next hands over no byte, whatever runs it is given
-pub no-cursor : (bytes ends : List ℕ) (bound : Bound) (lower : List ℕ) → ((outcome_told (new_of bytes ends bound lower).answer).number ≡ 0 → ⊥)
+pub no-cursor : (bytes ends : List ℕ) (bound : Bound) (lower : List ℕ) → (number_told (new_of bytes ends bound lower).answer ≡ 0 → ⊥)
     → (bytes' ends' : List ℕ) (bound' : Bound) (upper : List ℕ) (b : Buffers) → (next_left bytes' ends' bound' upper (new_of bytes ends bound lower).cursor b).lent ≡ b
 unfolding next_left
 no-cursor bytes ends bound lower e bytes' ends' bound' upper b =
-    let w = outcome-refused (new_of bytes ends bound lower).answer e in
+    let w = refused-by (new_of bytes ends bound lower).answer e in
     let k = none-handed bytes' ends' bound' upper b.key b.value in
     rw (new-refused-empty bytes ends bound lower w.0 w.1) (ap₂ (λ (x y : List ℕ). record { key = x; value = y }) k.0 k.1)

@@ -1,4 +1,6 @@
 -- The calls of an addition, one after the other, make the beginning of one list of operations. Assumes nothing.
+use Rattle.std.specs.Prelude.{Ok, Err}
+use Rattle.types.specs.Checks.{Verdict}
 use mathlib.Core.Path.{◌≡◌, refl, sym, ap, ◌∙◌}
 use mathlib.Core.Bool.{Bool, true, false, cond}
 use mathlib.Core.List.{List, [], ◌∷◌, ◌++◌, append-nil}
@@ -12,8 +14,6 @@ use borrow.Author.Tests.{le-leb, lt-leb}
 use Rattle.types.specs.declared.refusal.Refusal.TheVariants.{Cut}
 use Rattle.types.proofs.TestLaws.{le-or-lt, decided}
 use Rattle.types.specs.declared.page_id.PageID.{PageID}
-use Rattle.types.specs.declared.refusal.Verdict.{Verdict}
-use Rattle.types.specs.declared.refusal.Verdict.TheVariants.{Fine}
 use Rattle.flash.specs.Geometry.{flash_fine, has_page, page_start}
 use Rattle.flash.specs.Operations.{Op, applied, allowed}
 use Rattle.flash.proofs.OperationLaws.{applied-append, take-append}
@@ -24,7 +24,6 @@ use Rattle.writer.specs.Commits.{next_chunk}
 use Rattle.writer.specs.Duties.{Duty, hands_back, leaves}
 use Rattle.writer.specs.Checks.{writer_check}
 use Rattle.writer.specs.Writes.{takes, taken_of, grown, is_full, write_ops, written}
-use Rattle.types.specs.declared.answers.Outcome.TheVariants.{Done, Refused}
 use Rattle.writer.specs.declared.page_writer.PageWriter.{PageWriter}
 use Rattle.writer.proofs.FineLaws.{writer_check-fine}
 use Rattle.writer.proofs.OutcomeLaws.{checked_as}
@@ -54,7 +53,7 @@ pub record Going (n : ℕ) (w : PageWriter) : Type 0 where
   pub range : in_range w ≡ true
   pub there : has_page n w.page.0 ≡ true
 
-going_fine : (n : ℕ) (w : PageWriter) → Going n w → writer_check n w ≡ Fine
+going_fine : (n : ℕ) (w : PageWriter) → Going n w → writer_check n w ≡ Ok tt
 going_fine n w g = writer_check-fine n w g.shape g.range g.there
 
 pub written-page : (w : PageWriter) (bytes : List ℕ) → (written w bytes).page ≡ w.page
@@ -88,7 +87,7 @@ calls-made e (bytes ∷ pieces) x g =
     let ys = allowed base left ops xs in
     let v = written w bytes in
     let rest = addition_ops e v pieces in
-    let fine : writer_check (length xs) w ≡ Fine = going_fine (length xs) w g in
+    let fine : writer_check (length xs) w ≡ (Ok tt) = going_fine (length xs) w g in
     let same : length ys ≡ length xs = length-applied base (take left ops) xs in
     let next : Going (length ys) v = rw same (going_on (length xs) w bytes g) in
     ap
@@ -99,7 +98,7 @@ calls-made e (bytes ∷ pieces) x g =
     fine
     ∙ ⊎_elim
     (λ (all : length ops ≤ left).
-    ap (λ (t : Bool). go_on (cond t Done (Refused Cut)) (cond (fills w bytes) ys (after_writes e pieces (in_world ys (cond t v w) (left - length ops)))) ys) (le-leb (length ops) left all)
+    ap (λ (t : Bool). go_on (cond t (Ok tt) (Err Cut)) (cond (fills w bytes) ys (after_writes e pieces (in_world ys (cond t v w) (left - length ops)))) ys) (le-leb (length ops) left all)
     ∙ ⊎_elim
     (λ (f : fills w bytes ≡ true).
     ap (λ (t : Bool). cond t ys (after_writes e pieces (in_world ys v (left - length ops)))) f
@@ -113,6 +112,6 @@ calls-made e (bytes ∷ pieces) x g =
     ∙ ap (λ (t : Bool). allowed base left (ops ++ cond t [] rest) xs) (sym f))
     (decided (fills w bytes)))
     (λ (cut : left < length ops).
-    ap (λ (t : Bool). go_on (cond t Done (Refused Cut)) (cond (fills w bytes) ys (after_writes e pieces (in_world ys (cond t v w) (left - length ops)))) ys) (lt-leb (length ops) left cut)
+    ap (λ (t : Bool). go_on (cond t (Ok tt) (Err Cut)) (cond (fills w bytes) ys (after_writes e pieces (in_world ys (cond t v w) (left - length ops)))) ys) (lt-leb (length ops) left cut)
     ∙ allowed-cut base left ops (cond (fills w bytes) [] rest) xs (omega arith))
     (le-or-lt (length ops) left)

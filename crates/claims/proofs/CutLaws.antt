@@ -1,4 +1,5 @@
 -- What a cut leaves for a walk over the page, for any flash, page, higher header, pieces and number of stores. Assumes nothing.
+use Rattle.std.specs.Prelude.{Ok, ⊤}
 use mathlib.Core.Path.{◌≡◌, refl, sym, ap, subst, ◌∙◌}
 use mathlib.Core.Bool.{Bool, true, false, cond}
 use mathlib.Core.List.{List, []}
@@ -16,14 +17,12 @@ use Rattle.flash.proofs.GeometryLaws.{page-inside, length-page}
 use Rattle.flash.proofs.PageLaws.{page-applied}
 use Rattle.page.specs.Headers.{header_fine}
 use Rattle.page.specs.Walks.{walk_from, all_erased}
-use Rattle.page.specs.declared.walk.Ending.TheVariants.{EndAt}
 use Rattle.page.proofs.CheckLaws.{open_check-fine}
 use Rattle.page.proofs.LaidLaws.{walk-ended}
 use Rattle.writer.specs.Calls.{opened_on}
 use Rattle.writer.specs.Openings.{appended, resume_at}
 use Rattle.writer.specs.States.{first_chunk, fresh, in_range}
 use Rattle.writer.specs.declared.answers.Ended.{Ended}
-use Rattle.types.specs.declared.answers.Outcome.TheVariants.{Done}
 use Rattle.writer.specs.declared.page_writer.PageWriter.{PageWriter}
 use Rattle.writer.proofs.OpeningLaws.{append-fine}
 use Rattle.writer.proofs.RangeLaws.{append-range}
@@ -42,21 +41,21 @@ pub record Shape (n p h : ℕ) : Type 0 where
 
 -- the writer that open_append hands back, where the page's chunks end at o
 module _ (e : ℕ) (xs : List ℕ) (page : PageID) (h : ℕ) (w : PageWriter) (k o : ℕ) (shape : Shape (length xs) page.0 h)
-    (ends : (walk_from (page_of page.0 xs) (first_chunk h)).ending ≡ EndAt o) where
+    (ends : (walk_from (page_of page.0 xs) (first_chunk h)).ending ≡ Ok o) where
   abbrev bytes : List ℕ
   bytes = page_of page.0 xs
 
   abbrev writer : PageWriter
   writer = fresh false page h (resume_at e bytes o)
 
-  pub append-as : appended e xs page h w k ≡ record { answer = Done; writer = writer; left = k }
+  pub append-as : appended e xs page h w k ≡ record { answer = Ok tt; writer = writer; left = k }
   append-as =
       sym (append-fine xs page h w k e bytes o (resume_at e bytes o) writer (open_check-fine (length xs) h page shape.flash shape.header shape.there) refl ends refl refl)
 
   going : Going (length xs) writer
   going = record {
     shape = shape.flash;
-    range = ap (λ (r : Ended). in_range r.writer) (sym append-as) ∙ append-range e xs page h w k (ap (λ (r : Ended). r.answer) append-as);
+    range = ap (λ (r : Ended ⊤). in_range r.writer) (sym append-as) ∙ append-range e xs page h w k (ap (λ (r : Ended ⊤). r.answer) append-as);
     there = shape.there;
   }
 
@@ -76,7 +75,7 @@ module _ (e : ℕ) (xs : List ℕ) (page : PageID) (h : ℕ) (w : PageWriter) (k
     -- the calls make the first k operations
     pub added-flash : added e xs page h w k pieces ≡ allowed (page_start page.0) k ops xs
     unfolding added
-    added-flash = ap (λ (r : Ended). go_on r.answer (after_writes e pieces (opened_on xs r)) xs) append-as ∙ calls-made e pieces (in_world xs writer k) going
+    added-flash = ap (λ (r : Ended ⊤). go_on r.answer (after_writes e pieces (opened_on xs r)) xs) append-as ∙ calls-made e pieces (in_world xs writer k) going
 
     -- on the page alone
     pub added-page : page_of page.0 (added e xs page h w k pieces) ≡ applied 0 (take k ops) bytes

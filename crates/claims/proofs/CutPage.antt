@@ -1,4 +1,5 @@
 -- A cut of an addition leaves a good page with the old payloads, or with those and the new one. Assumes nothing.
+use Rattle.std.specs.Prelude.{⊤}
 use mathlib.Core.Path.{◌≡◌, sym, ap, subst, ◌∙◌}
 use mathlib.Core.Bool.{Bool, true, false, cond}
 use mathlib.Core.List.{List, [], ◌∷◌, ◌++◌}
@@ -63,7 +64,7 @@ module _ (e : ℕ) (unmarked : word (blank e 2) ≡ chunk_magic → ⊥) (xs : L
   writer = fresh false page h (resume_at e before o)
 
   is-writer : (appended e xs page h w k).writer ≡ writer
-  is-writer = ap (λ (r : Ended). r.writer) (append-as e xs page h w k o shape good.ends)
+  is-writer = ap (λ (r : Ended ⊤). r.writer) (append-as e xs page h w k o shape good.ends)
 
   abbrev payload : List ℕ
   payload = addition writer pieces

@@ -1,6 +1,7 @@
 -- What a new reader finds after a cut (docs/RULES.md, Stores left). A new reader opens the page and reads to the end, each read
 -- into a buffer that holds a whole chunk (`found`: what its calls hand out and how they end) or into buffers of any sizes
 -- (`found_with`). Assumes nothing.
+use Rattle.std.specs.Prelude.{Ok}
 use mathlib.Core.Path.{◌≡◌, sym, ap, subst, ◌∙◌}
 use mathlib.Core.Bool.{true}
 use mathlib.Core.List.{List, [], ◌∷◌, ◌++◌, flatten}
@@ -10,7 +11,6 @@ use lib.ListN.{length}
 use Rattle.types.specs.Bytes.{word}
 use Rattle.types.specs.Build.{erase_value, page_header_size, max_chunk_size}
 use Rattle.types.specs.declared.page_id.PageID.{PageID}
-use Rattle.types.specs.declared.refusal.Verdict.TheVariants.{Fine}
 use Rattle.flash.specs.Geometry.{flash_fine, has_page, page_of}
 use Rattle.slices.specs.Patch.{blank}
 use Rattle.slices.proofs.PatchLaws.{length-blank}
@@ -23,7 +23,6 @@ use Rattle.page.proofs.LaidLaws.{All}
 use Rattle.reader.specs.Calls.{open_page}
 use Rattle.reader.specs.Finds.{Found, NotEmpty, found, found_with, joined}
 use Rattle.reader.specs.States.{new_reader}
-use Rattle.types.specs.declared.answers.Outcome.TheVariants.{Done}
 use Rattle.reader.specs.declared.page_reader.PageReader.{PageReader}
 use Rattle.reader.proofs.BufferLaws.{any-buffers}
 use Rattle.reader.proofs.CallLaws.{open_page-answer, found-with, found_with-opened}
@@ -69,9 +68,9 @@ good-rooms xs magic page h o fine there good buffers rooms =
 good-opens : (xs : List ℕ) (magic : ℕ) (page : PageID) (h o : ℕ) → flash_fine (length xs) ≡ true → has_page (length xs) page.0 ≡ true → Good magic page.0 h o (page_of page.0 xs)
     → Opens xs magic page h (header_of (page_of page.0 xs) h)
 good-opens xs magic page h o fine there good =
-    let ends : (found_with (λ i. blank 0 max_chunk_size) xs magic page h).ends ≡ Fine =
+    let ends : (found_with (λ i. blank 0 max_chunk_size) xs magic page h).ends ≡ (Ok tt) =
     ap (λ (f : Found). f.ends) (sym (found-with xs magic page h) ∙ good-found xs magic page h o fine there good) in
-    let opens : (r : PageReader) → (open_page r xs magic page h).answer ≡ Done =
+    let opens : (r : PageReader) → (open_page r xs magic page h).answer ≡ (Ok tt) =
     λ r. open_page-answer r new_reader xs magic page h ∙ found_with-opened (λ i. blank 0 max_chunk_size) xs magic page h ends in
     record {
       done = opens;

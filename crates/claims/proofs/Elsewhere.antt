@@ -2,6 +2,9 @@
 -- writer that store are write, commit and write_header, each a duty that leaves the flash as `leaves` says; the flash's own store_if
 -- and erase_if leave it as `allowed_on` says. No other call of the storage crates is lent the flash to change it. So a whole addition
 -- and any history of a page leave every other page as it was. Assumes nothing.
+use Rattle.std.specs.Prelude.{Ok, Err, ⊤}
+use Rattle.std.specs.declared.result.Result.{Result}
+use Rattle.types.specs.declared.refusal.Refusal.{Refusal}
 use mathlib.Core.Path.{◌≡◌, refl, ap, subst, ◌∙◌}
 use mathlib.Core.Bool.{Bool, true, false, cond}
 use mathlib.Core.List.{List, [], ◌∷◌}
@@ -19,8 +22,6 @@ use Rattle.writer.specs.Calls.{World, AddCall, writes, commits, duty_in, hands_b
 use Rattle.writer.specs.Duties.{Duty, hands_back, leaves, makes}
 use Rattle.writer.specs.Openings.{appended}
 use Rattle.writer.specs.Writes.{written}
-use Rattle.types.specs.declared.answers.Outcome.{Outcome}
-use Rattle.types.specs.declared.answers.Outcome.TheVariants as outcome
 use Rattle.writer.specs.declared.page_writer.PageWriter.{PageWriter}
 use Rattle.writer.proofs.OutcomeLaws.{by-check}
 use Rattle.claims.specs.Additions.{fills, go_on, after_writes, added}
@@ -84,10 +85,10 @@ call_kept e page call x same =
     subst (λ (p : PageID). OthersKept p.0 x.flash (leaves_in e x call).flash) same (elsewhere (duty_in e x call) x.writer x.left x.flash).others
 
 -- it ends with a write, or goes on
-ends-kept : (p : ℕ) (a : Outcome) (t : Bool) (xs ys zs : List ℕ) → OthersKept p xs ys → OthersKept p ys zs → OthersKept p xs (go_on a (cond t ys zs) ys)
-ends-kept p (outcome.Refused why) t xs ys zs k l = k
-ends-kept p outcome.Done true xs ys zs k l = k
-ends-kept p outcome.Done false xs ys zs k l = kept_then p xs ys zs k l
+ends-kept : (p : ℕ) (a : Result ⊤ Refusal) (t : Bool) (xs ys zs : List ℕ) → OthersKept p xs ys → OthersKept p ys zs → OthersKept p xs (go_on a (cond t ys zs) ys)
+ends-kept p (Err why) t xs ys zs k l = k
+ends-kept p (Ok tt) true xs ys zs k l = k
+ends-kept p (Ok tt) false xs ys zs k l = kept_then p xs ys zs k l
 
 writes_kept : (e : ℕ) (page : PageID) (pieces : List (List ℕ)) (x : World) → x.writer.page ≡ page → OthersKept page.0 x.flash (after_writes e pieces x)
 unfolding after_writes
@@ -102,10 +103,10 @@ pub cut-elsewhere : (e : ℕ) (xs : List ℕ) (page : PageID) (h : ℕ) (w : Pag
 unfolding added
 cut-elsewhere e xs page h w k pieces = by (appended e xs page h w k).answer refl
   where
-    by : (a : Outcome) → (appended e xs page h w k).answer ≡ a
+    by : (a : Result ⊤ Refusal) → (appended e xs page h w k).answer ≡ a
         → OthersKept page.0 xs (go_on a (after_writes e pieces (opened_on xs (appended e xs page h w k))) xs)
-    by (outcome.Refused why) a = kept-none page.0 xs
-    by outcome.Done a = writes_kept e page pieces (opened_on xs (appended e xs page h w k)) (appended-page e xs page h w k a)
+    by (Err why) a = kept-none page.0 xs
+    by (Ok tt) a = writes_kept e page pieces (opened_on xs (appended e xs page h w k)) (appended-page e xs page h w k a)
 
 -- the same after any episodes
 pub history-elsewhere : (e : ℕ) (page : PageID) (h : ℕ) (ts : List Episode) (xs : List ℕ) → OthersKept page.0 xs (history e xs page h ts)

@@ -1,5 +1,7 @@
 -- After a reopening every store of write and commit lies within the page, on bytes that read as erased just before it, whatever the calls,
 -- write_header and refused ones among them. The page header goes over what is there, and ends before those bytes. Assumes nothing.
+use Rattle.std.specs.Prelude.{Ok, Err}
+use Rattle.types.specs.Checks.{Verdict}
 use mathlib.Core.Path.{◌≡◌, refl, sym, ap, subst, ◌∙◌}
 use mathlib.Core.Bool.{Bool, true, false, cond}
 use mathlib.Core.List.{List, [], ◌∷◌}
@@ -12,8 +14,6 @@ use lib.Seq.{take_all}
 use borrow.Author.Tests.{le-leb, lt-leb}
 use Rattle.types.specs.Build.{page_size}
 use Rattle.types.specs.declared.page_id.PageID.{PageID}
-use Rattle.types.specs.declared.refusal.Verdict.{Verdict}
-use Rattle.types.specs.declared.refusal.Verdict.TheVariants as verdict
 use Rattle.types.proofs.HistoryLaws.{told_by_each-none, told_by_each-more}
 use Rattle.types.proofs.TestLaws.{le-or-lt}
 use Rattle.flash.specs.Geometry.{page_start, page_of}
@@ -25,7 +25,6 @@ use Rattle.writer.specs.Commits.{next_chunk}
 use Rattle.writer.specs.Duties.{Duty, hands_back, makes}
 use Rattle.writer.specs.Openings.{appended}
 use Rattle.writer.specs.States.{in_range}
-use Rattle.types.specs.declared.answers.Outcome.TheVariants.{Done}
 use Rattle.writer.specs.declared.page_writer.PageWriter.{PageWriter}
 use Rattle.writer.proofs.CheckLaws.{WriterChecked, writer-checked, heading-checked, range-known}
 use Rattle.writer.proofs.CleanLaws.{Clean, append-clean, write-clean, commit-clean, heading-clean}
@@ -53,16 +52,16 @@ call-range e commits xs w r = commit-range w r
 call-range e (heads magic header) xs w r = heading-range w ∙ r
 
 -- a call that no check refuses has a whole page
-call-whole : (e : ℕ) (call : AddCall) (xs : List ℕ) (w : PageWriter) → (duty_of e call xs w).check ≡ verdict.Fine → length (page_of w.page.0 xs) ≡ page_size
+call-whole : (e : ℕ) (call : AddCall) (xs : List ℕ) (w : PageWriter) → (duty_of e call xs w).check ≡ Ok tt → length (page_of w.page.0 xs) ≡ page_size
 call-whole e call xs w v = length-page (page_start w.page.0) xs (checked call v).flash.whole
   where
-    checked : (call : AddCall) → (duty_of e call xs w).check ≡ verdict.Fine → WriterChecked (length xs) w
+    checked : (call : AddCall) → (duty_of e call xs w).check ≡ Ok tt → WriterChecked (length xs) w
     checked (writes bytes) v = writer-checked (length xs) w v
     checked commits v = writer-checked (length xs) w v
     checked (heads magic header) v = (heading-checked (length xs) w (length header) v).writer
 
 -- what a call that no check refuses owes lies where it may, and leaves a clean page
-call-clean : (e : ℕ) (call : AddCall) (xs : List ℕ) (w : PageWriter) (p : List ℕ) → in_range w ≡ true → length p ≡ page_size → Clean e w p → (duty_of e call xs w).check ≡ verdict.Fine
+call-clean : (e : ℕ) (call : AddCall) (xs : List ℕ) (w : PageWriter) (p : List ℕ) → in_range w ≡ true → length p ≡ page_size → Clean e w p → (duty_of e call xs w).check ≡ Ok tt
     → LandsBy e call (duty_of e call xs w).ops p × Clean e (duty_of e call xs w).next (applied 0 (duty_of e call xs w).ops p)
 call-clean e (writes bytes) xs w p r whole c v = write-clean e w bytes p (range-known w r) whole c
 call-clean e commits xs w p r whole c v = commit-clean e w p (range-known w r) whole c
@@ -124,13 +123,13 @@ module _ (e : ℕ) (call : AddCall) (calls : List AddCall) (x : World) (r : in_r
   next-page : page_of duty.next.page.0 ys ≡ applied 0 (take left ops) page
   next-page = ap (λ (p : PageID). page_of p.0 ys) (call-page e call x.flash w) ∙ page-applied (page_start w.page.0) (take left ops) x.flash
 
-  next-clean : duty.check ≡ verdict.Fine → length ops ≤ left → Clean e duty.next (page_of duty.next.page.0 ys)
+  next-clean : duty.check ≡ Ok tt → length ops ≤ left → Clean e duty.next (page_of duty.next.page.0 ys)
   next-clean v all =
       subst (λ (p : List ℕ). Clean e duty.next p) (sym (next-page ∙ ap (λ (l : List Op). applied 0 l page) (take_all left ops all)))
       (call-clean e call x.flash w page r (call-whole e call x.flash w v) c v).1
 
   -- all are made, and the page is clean; or the call is cut, and none is left
-  later-land : duty.check ≡ verdict.Fine → Later (leb (length ops) left)
+  later-land : duty.check ≡ Ok tt → Later (leb (length ops) left)
   later-land v =
       ⊎_elim
       (λ (all : length ops ≤ left).
@@ -139,8 +138,8 @@ module _ (e : ℕ) (call : AddCall) (calls : List AddCall) (x : World) (r : in_r
       (le-or-lt (length ops) left)
 
   call_lands : (v : Verdict) → duty.check ≡ v → LandsBy e call (makes (checked_as duty v) left) page × AllLand e (makings e (left_behind (checked_as duty v) x) calls)
-  call_lands (verdict.Refused why) q = (call_none e call page, further x r c)
-  call_lands verdict.Fine q = (call-take e call left ops page (call-clean e call x.flash w page r (call-whole e call x.flash w q) c q).0, later-land q)
+  call_lands (Err why) q = (call_none e call page, further x r c)
+  call_lands (Ok tt) q = (call-take e call left ops page (call-clean e call x.flash w page r (call-whole e call x.flash w q) c q).0, later-land q)
 
 all-land : (e : ℕ) (calls : List AddCall) (x : World) → in_range x.writer ≡ true → Clean e x.writer (page_of x.writer.page.0 x.flash) → AllLand e (makings e x calls)
 all-land e [] x r c = rw (told_by_each-none (leaves_in e) (making_in e) x) tt
@@ -149,7 +148,7 @@ all-land e (call ∷ calls) x r c =
 
 -- WRITES ON ERASED: after a reopening, whatever the calls, with any number of stores allowed in all, each store that write or commit
 -- makes lies within the page, on bytes that read as erased just before it
-pub writes-on-erased : (e : ℕ) (xs : List ℕ) (page : PageID) (h : ℕ) (w : PageWriter) (k : ℕ) (calls : List AddCall) → (appended e xs page h w k).answer ≡ Done
+pub writes-on-erased : (e : ℕ) (xs : List ℕ) (page : PageID) (h : ℕ) (w : PageWriter) (k : ℕ) (calls : List AddCall) → (appended e xs page h w k).answer ≡ Ok tt
     → AllLand e (makings e (opened_on xs (appended e xs page h w k)) calls)
 writes-on-erased e xs page h w k calls a =
     let v = (appended e xs page h w k).writer in

@@ -1,4 +1,5 @@
 -- A good page stays good, whatever is stored behind its chunks. Assumes nothing.
+use Rattle.std.specs.Prelude.{Ok}
 use mathlib.Core.Path.{◌≡◌, refl, sym, ap, ap₂, subst, ◌∙◌}
 use mathlib.Core.Bool.{true}
 use mathlib.Core.List.{List, [], ◌∷◌, ◌++◌, map}
@@ -10,7 +11,6 @@ use Rattle.types.specs.Build.{page_size, page_header_size}
 use Rattle.types.proofs.TestLaws.{both_true}
 use Rattle.page.specs.Headers.{page_header_fine}
 use Rattle.page.specs.Walks.{Chunk, Walked, walk_from}
-use Rattle.page.specs.declared.walk.Ending.TheVariants.{EndAt}
 use Rattle.page.proofs.HeaderLaws.{header-below}
 use Rattle.page.proofs.LaidLaws.{All, Placed, laid-placed, walk-laid, walk-ends-at, walk-ended}
 use Rattle.page.proofs.OntoLaws.{payload-below, fine-below}
@@ -71,7 +71,7 @@ module _ (magic p h o : ℕ) (page next : List ℕ) (good : Good magic p h o pag
   )
 
   -- the same chunks and one more
-  pub good_more : (c : Chunk) (o' : ℕ) → walk_from next start ≡ record { chunks = (walk_from page start).chunks ++ (c ∷ []); ending = EndAt o' } → Right next c
+  pub good_more : (c : Chunk) (o' : ℕ) → walk_from next start ≡ record { chunks = (walk_from page start).chunks ++ (c ∷ []); ending = Ok o' } → Right next c
       → Good magic p h o' next × (payloads next h ≡ payloads page h ++ (payload_of next c ∷ []))
   good_more c o' w r =
       let old = (walk_from page start).chunks in (

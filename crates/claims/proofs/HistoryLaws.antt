@@ -1,4 +1,5 @@
 -- Any history of reopenings, additions and cuts: what a page holds is the chunks whose last store was made. Assumes nothing.
+use Rattle.std.specs.Prelude.{⊤}
 use mathlib.Core.Path.{◌≡◌, refl, sym, ap, subst, ◌∙◌}
 use mathlib.Core.Bool.{Bool, true, false, cond, not, ◌&&◌}
 use mathlib.Core.List.{List, [], ◌∷◌, ◌++◌, flatten, append_assoc, append-nil}
@@ -51,7 +52,7 @@ module _ (e : ℕ) (unmarked : word (blank e 2) ≡ chunk_magic → ⊥) (page :
       let before = page_of page.0 xs in
       let after = page_of page.0 (added e xs page h w k ps) in
       let shape : Shape (length xs) page.0 h = record { flash = fine; header = good.length-fine; there = there } in
-      let is-writer : (appended e xs page h w k).writer ≡ fresh false page h (resume_at e before o) = ap (λ (r : Ended). r.writer) (append-as e xs page h w k o shape good.ends) in
+      let is-writer : (appended e xs page h w k).writer ≡ fresh false page h (resume_at e before o) = ap (λ (r : Ended ⊤). r.writer) (append-as e xs page h w k o shape good.ends) in
       ⊎_elim
       (λ (z : length new ≡ 0).
       let none : addition (fresh false page h (resume_at e before o)) ps ≡ [] = ap (λ (v : PageWriter). addition v ps) (sym is-writer) ∙ nothing new z in

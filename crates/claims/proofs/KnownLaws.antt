@@ -1,5 +1,8 @@
 -- What is known of a reader through any history of calls: one that was never opened is out of range, and one that was opened has a
 -- good page header and stands in a chunk of the walk behind it whose sum is right. Assumes nothing.
+use Rattle.reader.specs.declared.answers.EndTest.{EndTest}
+use Rattle.std.specs.Prelude.{Ok, Err, ⊤}
+use Rattle.std.specs.declared.result.Result.{Result}
 use mathlib.Core.Path.{◌≡◌, refl, sym, ap, subst}
 use mathlib.Core.Bool.{Bool, true, false, cond}
 use mathlib.Core.List.{List, [], ◌∷◌, ◌++◌}
@@ -18,20 +21,12 @@ use Rattle.flash.specs.Geometry.{page_of}
 use Rattle.page.specs.Chunks.{next_offset}
 use Rattle.page.specs.Headers.{page_header_fine}
 use Rattle.page.specs.Walks.{Chunk, walk_from}
-use Rattle.types.specs.Answers.{outcome_told, page_of_told}
-use Rattle.reader.specs.Answers.{count_told, end_test_told, dehydration_told}
+use Rattle.types.specs.Answers.{number_told}
 use Rattle.reader.specs.Calls.{read_header, read_header_bytes, open_page, open_bytes, read, read_bytes, skip, is_at_eof, dehydrate, rehydrate_from, page_id}
 use Rattle.reader.specs.Checks.{in_range}
 use Rattle.reader.specs.Finds.{payload_of}
 use Rattle.reader.specs.States.{restored}
-use Rattle.reader.specs.declared.answers.Count.{Count}
-use Rattle.reader.specs.declared.answers.Count.TheVariants as count
-use Rattle.reader.specs.declared.answers.Dehydration.{Dehydration}
-use Rattle.reader.specs.declared.answers.Dehydration.TheVariants as dehydration
 use Rattle.reader.specs.declared.dehydrated.DehydratedPageReader.{DehydratedPageReader}
-use Rattle.reader.specs.declared.answers.EndTested.{EndTested}
-use Rattle.types.specs.declared.answers.Outcome.{Outcome}
-use Rattle.types.specs.declared.answers.Outcome.TheVariants as outcome
 use Rattle.reader.specs.declared.answers.Passage.{Passage}
 use Rattle.reader.specs.declared.page_reader.PageReader.{PageReader}
 use Rattle.reader.proofs.AgainLaws.{open-reader-kept, rehydrate-kept}
@@ -59,19 +54,19 @@ module _ (flash : List ℕ) (r : PageReader) where
   read_known : (from : Origin) → Known flash from r → (buffer : List ℕ) → Known flash from (read r flash (length buffer)).reader
   read_known never k buffer =
       let w = reader_check-out (length flash) r k in
-      subst (λ (p : Passage). in_range p.reader ≡ false) (read-refused r flash w.0 w.1 buffer).0 k
+      subst (λ (p : Passage ℕ). in_range p.reader ≡ false) (read-refused r flash w.0 w.1 buffer).0 k
   read_known (opened_at magic page h) k buffer = (k.0, read-stands flash page (12 + h) r k.1 (length buffer))
 
   skip-known : (from : Origin) → Known flash from r → (n : ℕ) → Known flash from (skip r flash n).reader
   skip-known never k n =
       let w = reader_check-out (length flash) r k in
-      subst (λ (p : Passage). in_range p.reader ≡ false) (skip-refused r flash w.0 w.1 n) k
+      subst (λ (p : Passage ℕ). in_range p.reader ≡ false) (skip-refused r flash w.0 w.1 n) k
   skip-known (opened_at magic page h) k n = (k.0, skip-stands flash page (12 + h) r k.1 n)
 
   eof-known : (from : Origin) → Known flash from r → Known flash from (is_at_eof r flash).reader
   eof-known never k =
       let w = reader_check-out (length flash) r k in
-      subst (λ (p : EndTested). in_range p.reader ≡ false) (eof-refused r flash w.0 w.1) k
+      subst (λ (p : Passage EndTest). in_range p.reader ≡ false) (eof-refused r flash w.0 w.1) k
   eof-known (opened_at magic page h) k = (k.0, eof-stands flash page (12 + h) r k.1)
 
 -- ---- where the reader comes from afterwards
@@ -96,7 +91,7 @@ either_way flash r from false k = k
 
 -- as it was, after a refusal
 as_it_was : (flash : List ℕ) (r s : PageReader) (from other : Origin) (w : Refusal) → s ≡ r → Known flash from r
-    → Known flash (cond (eqb (outcome_told (outcome.Refused w)).number 0) other from) s
+    → Known flash (cond (eqb (number_of w) 0) other from) s
 as_it_was flash r s from other w e k =
     subst (λ (t : Bool). Known flash (cond t other from) s) (sym (row-not-0 w)) (subst (λ (q : PageReader). Known flash from q) (sym e) k)
 
@@ -111,10 +106,10 @@ module _ (flash : List ℕ) (k : Held) (known : HeldKnown flash k) where
       r : PageReader
       r = k.reader
 
-      by : (a : Outcome) → (open_page r flash magic page (length lent)).answer ≡ a
-          → Known flash (cond (eqb (outcome_told a).number 0) (opened_at magic page (length lent)) k.origin) (open_page r flash magic page (length lent)).reader
-      by outcome.Done e = open-stands r flash magic page (length lent) e
-      by (outcome.Refused w) e =
+      by : (a : Result ⊤ Refusal) → (open_page r flash magic page (length lent)).answer ≡ a
+          → Known flash (cond (eqb (number_told a) 0) (opened_at magic page (length lent)) k.origin) (open_page r flash magic page (length lent)).reader
+      by (Ok tt) e = open-stands r flash magic page (length lent) e
+      by (Err w) e =
           as_it_was flash r (open_page r flash magic page (length lent)).reader k.origin (opened_at magic page (length lent)) w
           (open-reader-kept r flash w magic page (length lent) e) known.reader
 
@@ -125,31 +120,31 @@ module _ (flash : List ℕ) (k : Held) (known : HeldKnown flash k) where
       r : PageReader
       r = k.reader
 
-      by : (a : Outcome) → (rehydrate_from r flash (k.slots slot).state).answer ≡ a
-          → Known flash (cond (eqb (outcome_told a).number 0) (k.slots slot).origin k.origin) (rehydrate_from r flash (k.slots slot).state).reader
-      by outcome.Done e =
+      by : (a : Result ⊤ Refusal) → (rehydrate_from r flash (k.slots slot).state).answer ≡ a
+          → Known flash (cond (eqb (number_told a) 0) (k.slots slot).origin k.origin) (rehydrate_from r flash (k.slots slot).state).reader
+      by (Ok tt) e =
           subst (λ (s : PageReader). Known flash (k.slots slot).origin s) (sym (rehydrate-restores r flash (k.slots slot).state e)) (known.slots slot)
-      by (outcome.Refused w) e =
+      by (Err w) e =
           as_it_was flash r (rehydrate_from r flash (k.slots slot).state).reader k.origin (k.slots slot).origin w
           (rehydrate-kept r flash w (k.slots slot).state e) known.reader
 
   reader-after : (call : ReaderCall) (lent : List ℕ) → Known flash (After call lent).origin (After call lent).reader
   unfolding after_call reader_left
   reader-after (reads_header magic page) lent =
-      either_way flash k.reader k.origin (eqb (outcome_told (read_header flash magic page (length lent))).number 0) known.reader
+      either_way flash k.reader k.origin (eqb (number_told (read_header flash magic page (length lent))) 0) known.reader
   reader-after (opens magic page) lent = opens-known magic page lent
   reader-after reads lent =
       let a = read k.reader flash (length lent) in
-      either_way flash a.reader k.origin (eqb (count_told a.answer).number 0) (read_known flash k.reader k.origin known.reader lent)
+      either_way flash a.reader k.origin (eqb (number_told a.answer) 0) (read_known flash k.reader k.origin known.reader lent)
   reader-after (skips n) lent =
       let a = skip k.reader flash n in
-      either_way flash a.reader k.origin (eqb (count_told a.answer).number 0) (skip-known flash k.reader k.origin known.reader n)
+      either_way flash a.reader k.origin (eqb (number_told a.answer) 0) (skip-known flash k.reader k.origin known.reader n)
   reader-after asks_for_its_end lent =
       let a = is_at_eof k.reader flash in
-      either_way flash a.reader k.origin (eqb (end_test_told a.answer).number 0) (eof-known flash k.reader k.origin known.reader)
-  reader-after (dehydrates slot) lent = either_way flash k.reader k.origin (eqb (dehydration_told (dehydrate k.reader)).number 0) known.reader
+      either_way flash a.reader k.origin (eqb (number_told a.answer) 0) (eof-known flash k.reader k.origin known.reader)
+  reader-after (dehydrates slot) lent = either_way flash k.reader k.origin (eqb (number_told (dehydrate k.reader)) 0) known.reader
   reader-after (rehydrates slot) lent = rehydrates-known slot lent
-  reader-after asks_its_page lent = either_way flash k.reader k.origin (eqb (page_of_told (page_id k.reader)).number 0) known.reader
+  reader-after asks_its_page lent = either_way flash k.reader k.origin (eqb (number_told (page_id k.reader)) 0) known.reader
 
   -- ---- and the slots
 
@@ -163,10 +158,10 @@ module _ (flash : List ℕ) (k : Held) (known : HeldKnown flash k) where
       in-it d own true = own
       in-it d own false = known.slots other
 
-      by : (a : Dehydration) → dehydrate k.reader ≡ a → InSlot (slot_filled k slot a other)
-      by (dehydration.State d) e =
+      by : (a : Result DehydratedPageReader Refusal) → dehydrate k.reader ≡ a → InSlot (slot_filled k slot a other)
+      by (Ok d) e =
           in-it d (subst (λ (x : DehydratedPageReader). InSlot (record { state = x; origin = k.origin })) (dehydrate-state k.reader d e) known.reader) (eqb slot other)
-      by (dehydration.Refused w) e = known.slots other
+      by (Err w) e = known.slots other
 
   slots-after : (call : ReaderCall) (other : ℕ) → InSlot (slots_by k call other)
   slots-after (reads_header magic page) other = known.slots other
@@ -198,10 +193,10 @@ among-split (d ∷ earlier) c later = inr (among-split earlier c later)
 
 -- a reader that was opened hands out bytes of the good chunk in which it stands
 handed-puts : (flash : List ℕ) (magic : ℕ) (page : PageID) (h : ℕ) → page_header_fine (page_of page.0 flash) magic page.0 h ≡ true → (lent after : List ℕ)
-    → (a : Count) → HandedBy (page_of page.0 flash) (page_header_size + h) lent after a → ReadPuts flash (opened_at magic page h) lent after a
-handed-puts flash magic page h fine lent after (count.Refused why) k = k
-handed-puts flash magic page h fine lent after (count.Bytes zero) k = k
-handed-puts flash magic page h fine lent after (count.Bytes (suc n)) k =
+    → (a : Result ℕ Refusal) → HandedBy (page_of page.0 flash) (page_header_size + h) lent after a → ReadPuts flash (opened_at magic page h) lent after a
+handed-puts flash magic page h fine lent after (Err why) k = k
+handed-puts flash magic page h fine lent after (Ok zero) k = k
+handed-puts flash magic page h fine lent after (Ok (suc n)) k =
     let bytes = page_of page.0 flash in
     let c = k.chunk in
     let left = drop k.position (payload_of bytes c) in
@@ -226,7 +221,7 @@ read-puts : (flash : List ℕ) (from : Origin) (r : PageReader) (buffer : List �
 read-puts flash never r buffer k =
     let w = reader_check-out (length flash) r k in
     let so = read-refused r flash w.0 w.1 buffer in
-    subst (λ (p : Passage). ReadPuts flash never buffer (read_bytes r flash buffer) p.answer) so.0 (sym so.1)
+    subst (λ (p : Passage ℕ). ReadPuts flash never buffer (read_bytes r flash buffer) p.answer) so.0 (sym so.1)
 read-puts flash (opened_at magic page h) r buffer k =
     handed-puts flash magic page h k.0 buffer (read_bytes r flash buffer) (read r flash (length buffer)).answer (read-hands flash page (12 + h) r k.1 buffer)
 
@@ -236,17 +231,17 @@ header-puts : (flash : List ℕ) (magic : ℕ) (page : PageID) (lent : List ℕ)
     → HeaderPuts flash magic page lent (read_header_bytes flash magic page lent) (read_header flash magic page (length lent))
 header-puts flash magic page lent = by (read_header flash magic page (length lent)) refl
   where
-    by : (a : Outcome) → read_header flash magic page (length lent) ≡ a → HeaderPuts flash magic page lent (read_header_bytes flash magic page lent) a
-    by outcome.Done e = (sym (read-header-filled flash magic page lent e), read_header-done flash magic page (length lent) e)
-    by (outcome.Refused w) e = sym (read-header-kept flash magic page lent w e)
+    by : (a : Result ⊤ Refusal) → read_header flash magic page (length lent) ≡ a → HeaderPuts flash magic page lent (read_header_bytes flash magic page lent) a
+    by (Ok tt) e = (sym (read-header-filled flash magic page lent e), read_header-done flash magic page (length lent) e)
+    by (Err w) e = sym (read-header-kept flash magic page lent w e)
 
 open-puts : (flash : List ℕ) (r : PageReader) (magic : ℕ) (page : PageID) (lent : List ℕ)
     → HeaderPuts flash magic page lent (open_bytes r flash magic page lent) (open_page r flash magic page (length lent)).answer
 open-puts flash r magic page lent = by (open_page r flash magic page (length lent)).answer refl
   where
-    by : (a : Outcome) → (open_page r flash magic page (length lent)).answer ≡ a → HeaderPuts flash magic page lent (open_bytes r flash magic page lent) a
-    by outcome.Done e = (sym (open-filled flash magic page lent r e), (open-stands r flash magic page (length lent) e).0)
-    by (outcome.Refused w) e = sym (open_kept flash magic page lent w r e)
+    by : (a : Result ⊤ Refusal) → (open_page r flash magic page (length lent)).answer ≡ a → HeaderPuts flash magic page lent (open_bytes r flash magic page lent) a
+    by (Ok tt) e = (sym (open-filled flash magic page lent r e), (open-stands r flash magic page (length lent) e).0)
+    by (Err w) e = sym (open_kept flash magic page lent w r e)
 
 pub call-puts : (flash : List ℕ) (k : Held) → HeldKnown flash k → (call : ReaderCall) (lent : List ℕ) → Puts flash k call lent
 call-puts flash k known (reads_header magic page) lent = header-puts flash magic page lent

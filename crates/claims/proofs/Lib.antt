@@ -32,6 +32,7 @@ pub mod PageCutLaws
 pub mod ReferenceCasesHold
 pub mod Retried
 pub mod SkipIsRead
+pub mod ToldLaws
 pub mod WorkedCalls
 pub mod WorkedHistory
 pub mod WorkedLaws

@@ -1,5 +1,7 @@
 -- NEVER UNCHECKED: whatever is asked of a reader, in whatever order, on a flash that stays as it is, no byte comes out that no sum
 -- covers. In the original a reader steps on when it has refused a damaged chunk, and serves such bytes. Assumes nothing.
+use Rattle.reader.specs.declared.dehydrated.DehydratedPageReader.{DehydratedPageReader}
+use Rattle.std.specs.declared.result.Result.{Result}
 use mathlib.Core.Path.{◌≡◌, refl, ap}
 use mathlib.Core.Bool.{Bool, cond}
 use mathlib.Core.List.{List}
@@ -8,14 +10,11 @@ use lib.Dec.{eqb}
 use borrow.Author.Tests.{ne_eqb}
 use Rattle.types.specs.Histories.{left_after}
 use Rattle.types.specs.declared.refusal.Refusal.{Refusal}
-use Rattle.reader.specs.Answers.{dehydration_told}
 use Rattle.reader.specs.Calls.{dehydrate}
-use Rattle.reader.specs.declared.answers.Dehydration.{Dehydration}
-use Rattle.reader.specs.declared.answers.Dehydration.TheVariants as dehydration
 use Rattle.reader.specs.declared.page_reader.PageReader.{PageReader}
 use Rattle.claims.specs.Again.{Left, IsRefused, ReaderCall, reads_header, opens, reads, skips, asks_for_its_end, dehydrates, rehydrates, asks_its_page, reader_left}
 use Rattle.claims.specs.ReaderHistories.{Origin, Kept, Held, states_of, at_first, Asked, call_leaves, origin_by, slot_filled, slots_by, after_call, NoneUnchecked}
-use Rattle.claims.proofs.AskedAgain.{kept}
+use Rattle.claims.proofs.AskedAgain.{kept, refused-by}
 use Rattle.claims.proofs.KnownLaws.{calls-known, first-known, call-puts}
 
 -- ---- a refused call changes nothing
@@ -24,10 +23,6 @@ held-is : (r s : PageReader) (a b : Origin) (x y : ℕ → Kept) → r ≡ s →
     → ◌≡◌ {A = Held} (record { reader = r; origin = a; slots = x }) (record { reader = s; origin = b; slots = y })
 held-is r s a b x y p q u = rw (p, q, u)
 
-dehydration-refused : (a : Dehydration) → ((dehydration_told a).number ≡ 0 → ⊥) → (w : Refusal) × (a ≡ dehydration.Refused w)
-dehydration-refused (dehydration.State d) e = absurd (e refl)
-dehydration-refused (dehydration.Refused w) e = (w, refl)
-
 slots_kept : (flash : List ℕ) (k : Held) (call : ReaderCall) (lent : List ℕ) → IsRefused (call_leaves flash k (record { call = call; lent = lent })) → slots_by k call ≡ k.slots
 unfolding reader_left
 slots_kept flash k (reads_header magic page) lent e = refl
@@ -35,7 +30,7 @@ slots_kept flash k (opens magic page) lent e = refl
 slots_kept flash k reads lent e = refl
 slots_kept flash k (skips n) lent e = refl
 slots_kept flash k asks_for_its_end lent e = refl
-slots_kept flash k (dehydrates slot) lent e = ap (λ (a : Dehydration). slot_filled k slot a) (dehydration-refused (dehydrate k.reader) e).1
+slots_kept flash k (dehydrates slot) lent e = ap (λ (a : Result DehydratedPageReader Refusal). slot_filled k slot a) (refused-by (dehydrate k.reader) e).1
 slots_kept flash k (rehydrates slot) lent e = refl
 slots_kept flash k asks_its_page lent e = refl
 

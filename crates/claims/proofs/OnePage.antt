@@ -11,12 +11,6 @@ use Rattle.page.proofs.header.header_of.Reads.{Learnt as header-of}
 use Rattle.page.proofs.header.page_header_fine.Reads.{Learnt as page-header-fine}
 use Rattle.page.proofs.walk.walk_end.Reads.{Learnt as walk-end}
 use Rattle.page.proofs.walk.all_erased.Reads.{Learnt as all-erased}
-use Rattle.page.proofs.chunk.Step.number.Reads.{Learnt as Step-number}
-use Rattle.page.proofs.chunk.Step.len_or.Reads.{Learnt as Step-len-or}
-use Rattle.page.proofs.chunk.Step.crc_or.Reads.{Learnt as Step-crc-or}
-use Rattle.page.proofs.chunk.Step.next_or.Reads.{Learnt as Step-next-or}
-use Rattle.page.proofs.walk.Ending.number.Reads.{Learnt as Ending-number}
-use Rattle.page.proofs.walk.Ending.offset_or.Reads.{Learnt as Ending-offset-or}
 use Rattle.claims.specs.Outcomes.{OneOutcome}
 use Rattle.claims.proofs.OutcomeLaws.{one}
 
@@ -55,21 +49,3 @@ one-walk-end k a r r' e e' p q = one p q
 
 pub one-all-erased : OneOutcome all-erased (λ r e. r)
 one-all-erased k a r r' e e' p q = one p q
-
-pub one-Step-number : OneOutcome Step-number (λ r e. r)
-one-Step-number k a r r' e e' p q = one p q
-
-pub one-Step-len-or : OneOutcome Step-len-or (λ r e. r)
-one-Step-len-or k a r r' e e' p q = one p q
-
-pub one-Step-crc-or : OneOutcome Step-crc-or (λ r e. r)
-one-Step-crc-or k a r r' e e' p q = one p q
-
-pub one-Step-next-or : OneOutcome Step-next-or (λ r e. r)
-one-Step-next-or k a r r' e e' p q = one p q
-
-pub one-Ending-number : OneOutcome Ending-number (λ r e. r)
-one-Ending-number k a r r' e e' p q = one p q
-
-pub one-Ending-offset-or : OneOutcome Ending-offset-or (λ r e. r)
-one-Ending-offset-or k a r r' e e' p q = one p q

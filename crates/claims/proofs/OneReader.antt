@@ -8,12 +8,8 @@ use Rattle.reader.proofs.page_reader.PageReader.is_at_eof.Reads.{Learnt as PageR
 use Rattle.reader.proofs.page_reader.PageReader.dehydrate.Reads.{Learnt as PageReader-dehydrate}
 use Rattle.reader.proofs.page_reader.PageReader.rehydrate_from.Reads.{Learnt as PageReader-rehydrate-from}
 use Rattle.reader.proofs.page_reader.PageReader.page_id.Reads.{Learnt as PageReader-page-id}
-use Rattle.reader.proofs.answers.Count.number.Reads.{Learnt as Count-number}
-use Rattle.reader.proofs.answers.EndTest.number.Reads.{Learnt as EndTest-number}
-use Rattle.reader.proofs.answers.Dehydration.number.Reads.{Learnt as Dehydration-number}
-use Rattle.reader.proofs.answers.Count.bytes.Reads.{Learnt as Count-bytes}
-use Rattle.reader.proofs.answers.EndTest.at_end.Reads.{Learnt as EndTest-at-end}
-use Rattle.reader.proofs.answers.Dehydration.state_or.Reads.{Learnt as Dehydration-state-or}
+use Rattle.reader.proofs.dehydrated.DehydratedPageReaderFromPageReader.from.Reads.{Learnt as DehydratedPageReaderFromPageReader-from}
+use Rattle.reader.proofs.dehydrated.PageReaderFromDehydratedPageReader.from.Reads.{Learnt as PageReaderFromDehydratedPageReader-from}
 use Rattle.claims.specs.Outcomes.{OneOutcome, beside}
 use Rattle.claims.proofs.OutcomeLaws.{one, two}
 
@@ -44,20 +40,8 @@ one-PageReader-rehydrate-from k a r r' e e' p q = one p q
 pub one-PageReader-page-id : OneOutcome PageReader-page-id (λ r e. r)
 one-PageReader-page-id k a r r' e e' p q = one p q
 
-pub one-Count-number : OneOutcome Count-number (λ r e. r)
-one-Count-number k a r r' e e' p q = one p q
+pub one-DehydratedPageReaderFromPageReader-from : OneOutcome DehydratedPageReaderFromPageReader-from (λ r e. r)
+one-DehydratedPageReaderFromPageReader-from k a r r' e e' p q = one p q
 
-pub one-EndTest-number : OneOutcome EndTest-number (λ r e. r)
-one-EndTest-number k a r r' e e' p q = one p q
-
-pub one-Dehydration-number : OneOutcome Dehydration-number (λ r e. r)
-one-Dehydration-number k a r r' e e' p q = one p q
-
-pub one-Count-bytes : OneOutcome Count-bytes (λ r e. r)
-one-Count-bytes k a r r' e e' p q = one p q
-
-pub one-EndTest-at-end : OneOutcome EndTest-at-end (λ r e. r)
-one-EndTest-at-end k a r r' e e' p q = one p q
-
-pub one-Dehydration-state-or : OneOutcome Dehydration-state-or (λ r e. r)
-one-Dehydration-state-or k a r r' e e' p q = one p q
+pub one-PageReaderFromDehydratedPageReader-from : OneOutcome PageReaderFromDehydratedPageReader-from (λ r e. r)
+one-PageReaderFromDehydratedPageReader-from k a r r' e e' p q = one p q

@@ -7,6 +7,7 @@ use Rattle.slices.proofs.field.put32.Reads.{Learnt as put32}
 use Rattle.slices.proofs.part.part_of.Reads.{Learnt as part-of}
 use Rattle.slices.proofs.part.part_to.Reads.{Learnt as part-to}
 use Rattle.slices.proofs.part.put.Reads.{Learnt as put}
+use Rattle.slices.proofs.part.put_at.Reads.{Learnt as put-at}
 use Rattle.slices.proofs.part.wipe.Reads.{Learnt as wipe}
 use Rattle.claims.specs.Outcomes.{OneOutcome}
 use Rattle.claims.proofs.OutcomeLaws.{one}
@@ -34,6 +35,9 @@ one-part-to k a r r' e e' p q = one p q
 
 pub one-put : OneOutcome put (λ r e. e.0.now)
 one-put k a r r' e e' p q = one p q
+
+pub one-put-at : OneOutcome put-at (λ r e. e.0.now)
+one-put-at k a r r' e e' p q = one p q
 
 pub one-wipe : OneOutcome wipe (λ r e. e.0.now)
 one-wipe k a r r' e e' p q = one p q

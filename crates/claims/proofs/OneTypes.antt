@@ -1,9 +1,10 @@
 -- One outcome for every function of `types` that is open to callers: each line cites the function's own promise. Assumes nothing.
 use mathlib.Core.Path.{ap}
 use Prim.Native.Nat.{ℕ}
+use denote.RattleType.{RattleType}
+use denote.Param.Laws.{Laws}
+use mir.Syntax.{Dict}
 use Rattle.types.proofs.config.the_build.Reads.{Learnt as the-build}
-use Rattle.types.proofs.num.min.Reads.{Learnt as min}
-use Rattle.types.proofs.num.minus.Reads.{Learnt as minus}
 use Rattle.types.proofs.page_id.PageID.zero.Reads.{Learnt as PageID-zero}
 use Rattle.types.proofs.page_id.PageID.from_raw.Reads.{Learnt as PageID-from-raw}
 use Rattle.types.proofs.page_id.PageID.index.Reads.{Learnt as PageID-index}
@@ -11,28 +12,18 @@ use Rattle.types.proofs.page_id.OptionPageID.none.Reads.{Learnt as OptionPageID-
 use Rattle.types.proofs.page_id.OptionPageID.some.Reads.{Learnt as OptionPageID-some}
 use Rattle.types.proofs.page_id.OptionPageID.from_raw.Reads.{Learnt as OptionPageID-from-raw}
 use Rattle.types.proofs.page_id.OptionPageID.into_raw.Reads.{Learnt as OptionPageID-into-raw}
-use Rattle.types.proofs.page_id.OptionPageID.from_option.Reads.{Learnt as OptionPageID-from-option}
-use Rattle.types.proofs.page_id.OptionPageID.into_option.Reads.{Learnt as OptionPageID-into-option}
+use Rattle.types.proofs.page_id.OptionPageIDFromImplaa49c50e.from.Reads.{Learnt as OptionPageIDFromImplaa49c50e-from}
+use Rattle.types.proofs.page_id.OptionPageIDFromImpl75ae9c52.from.Reads.{Learnt as OptionPageIDFromImpl75ae9c52-from}
 use Rattle.types.proofs.page_id.OptionPageID.is_some.Reads.{Learnt as OptionPageID-is-some}
 use Rattle.types.proofs.page_id.OptionPageID.is_none.Reads.{Learnt as OptionPageID-is-none}
 use Rattle.types.proofs.refusal.Refusal.number.Reads.{Learnt as Refusal-number}
-use Rattle.types.proofs.refusal.Verdict.number.Reads.{Learnt as Verdict-number}
-use Rattle.types.proofs.page_id.MaybePageID.number.Reads.{Learnt as MaybePageID-number}
-use Rattle.types.proofs.page_id.MaybePageID.page_or.Reads.{Learnt as MaybePageID-page-or}
-use Rattle.types.proofs.answers.Outcome.number.Reads.{Learnt as Outcome-number}
-use Rattle.types.proofs.answers.PageOf.number.Reads.{Learnt as PageOf-number}
-use Rattle.types.proofs.answers.PageOf.page_or.Reads.{Learnt as PageOf-page-or}
+use Rattle.types.proofs.refusal.RefusalFromCorrupted.from.Reads.{Learnt as RefusalFromCorrupted-from}
+use Rattle.types.proofs.answers.ResultRefusalAnswer.number.Reads.{Learnt as ResultRefusalAnswer-number}
 use Rattle.claims.specs.Outcomes.{OneOutcome}
 use Rattle.claims.proofs.OutcomeLaws.{one}
 
 pub one-the-build : OneOutcome the-build (λ r e. r)
 one-the-build k a r r' e e' p q = one p q
-
-pub one-min : OneOutcome min (λ r e. r)
-one-min k a r r' e e' p q = one p q
-
-pub one-minus : OneOutcome minus (λ r e. r)
-one-minus k a r r' e e' p q = one p q
 
 pub one-PageID-zero : OneOutcome PageID-zero (λ r e. r)
 one-PageID-zero k a r r' e e' p q = ap (λ (n : ℕ). record { 0 = n }) (one p q)
@@ -55,11 +46,13 @@ one-OptionPageID-from-raw k a r r' e e' p q = ap (λ (n : ℕ). record { 0 = n }
 pub one-OptionPageID-into-raw : OneOutcome OptionPageID-into-raw (λ r e. r)
 one-OptionPageID-into-raw k a r r' e e' p q = one p q
 
-pub one-OptionPageID-from-option : OneOutcome OptionPageID-from-option (λ r e. r)
-one-OptionPageID-from-option k a r r' e e' p q = ap (λ (n : ℕ). record { 0 = n }) (one p q)
+-- a page or none, as it is written
+pub one-OptionPageIDFromImplaa49c50e-from : OneOutcome OptionPageIDFromImplaa49c50e-from (λ r e. r)
+one-OptionPageIDFromImplaa49c50e-from k a r r' e e' p q = ap (λ (n : ℕ). record { 0 = n }) (one p q)
 
-pub one-OptionPageID-into-option : OneOutcome OptionPageID-into-option (λ r e. r)
-one-OptionPageID-into-option k a r r' e e' p q = one p q
+-- and as it is read
+pub one-OptionPageIDFromImpl75ae9c52-from : OneOutcome OptionPageIDFromImpl75ae9c52-from (λ r e. r)
+one-OptionPageIDFromImpl75ae9c52-from k a r r' e e' p q = one p q
 
 pub one-OptionPageID-is-some : OneOutcome OptionPageID-is-some (λ r e. r)
 one-OptionPageID-is-some k a r r' e e' p q = one p q
@@ -70,20 +63,8 @@ one-OptionPageID-is-none k a r r' e e' p q = one p q
 pub one-Refusal-number : OneOutcome Refusal-number (λ r e. r)
 one-Refusal-number k a r r' e e' p q = one p q
 
-pub one-Verdict-number : OneOutcome Verdict-number (λ r e. r)
-one-Verdict-number k a r r' e e' p q = one p q
+pub one-RefusalFromCorrupted-from : OneOutcome RefusalFromCorrupted-from (λ r e. r)
+one-RefusalFromCorrupted-from k a r r' e e' p q = one p q
 
-pub one-MaybePageID-number : OneOutcome MaybePageID-number (λ r e. r)
-one-MaybePageID-number k a r r' e e' p q = one p q
-
-pub one-MaybePageID-page-or : OneOutcome MaybePageID-page-or (λ r e. r)
-one-MaybePageID-page-or k a r r' e e' p q = ap (λ (n : ℕ). record { 0 = n }) (one p q)
-
-pub one-Outcome-number : OneOutcome Outcome-number (λ r e. r)
-one-Outcome-number k a r r' e e' p q = one p q
-
-pub one-PageOf-number : OneOutcome PageOf-number (λ r e. r)
-one-PageOf-number k a r r' e e' p q = one p q
-
-pub one-PageOf-page-or : OneOutcome PageOf-page-or (λ r e. r)
-one-PageOf-page-or k a r r' e e' p q = ap (λ (n : ℕ). record { 0 = n }) (one p q)
+pub one-ResultRefusalAnswer-number : (T : RattleType) (L : Laws T) (d : Dict) → OneOutcome (ResultRefusalAnswer-number T L d) (λ r e. r)
+one-ResultRefusalAnswer-number T L d k a r r' e e' p q = one p q

@@ -7,10 +7,6 @@ use Rattle.writer.proofs.page_writer.PageWriter.new.Reads.{Learnt as PageWriter-
 use Rattle.writer.proofs.page_writer.PageWriter.len.Reads.{Learnt as PageWriter-len}
 use Rattle.writer.proofs.page_writer.PageWriter.page_id.Reads.{Learnt as PageWriter-page-id}
 use Rattle.writer.proofs.page_writer.PageWriter.write.Reads.{Learnt as PageWriter-write}
-use Rattle.writer.proofs.answers.Taking.number.Reads.{Learnt as Taking-number}
-use Rattle.writer.proofs.answers.Length.number.Reads.{Learnt as Length-number}
-use Rattle.writer.proofs.answers.Taking.bytes.Reads.{Learnt as Taking-bytes}
-use Rattle.writer.proofs.answers.Length.bytes.Reads.{Learnt as Length-bytes}
 use Rattle.claims.specs.Outcomes.{OneOutcome, beside}
 use Rattle.claims.proofs.OutcomeLaws.{one, two}
 
@@ -37,15 +33,3 @@ one-PageWriter-page-id k a r r' e e' p q = one p q
 
 pub one-PageWriter-write : OneOutcome PageWriter-write (λ r e. beside r e.1.0.now)
 one-PageWriter-write k a r r' e e' p q = two p q
-
-pub one-Taking-number : OneOutcome Taking-number (λ r e. r)
-one-Taking-number k a r r' e e' p q = one p q
-
-pub one-Length-number : OneOutcome Length-number (λ r e. r)
-one-Length-number k a r r' e e' p q = one p q
-
-pub one-Taking-bytes : OneOutcome Taking-bytes (λ r e. r)
-one-Taking-bytes k a r r' e e' p q = one p q
-
-pub one-Length-bytes : OneOutcome Length-bytes (λ r e. r)
-one-Length-bytes k a r r' e e' p q = one p q

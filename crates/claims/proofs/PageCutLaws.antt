@@ -1,4 +1,5 @@
 -- What a cut leaves on the page, while one chunk is stored at the end of the others. Assumes nothing.
+use Rattle.std.specs.Prelude.{Ok, Some, None}
 use mathlib.Core.Path.{◌≡◌, refl, sym, ap, ◌∙◌}
 use mathlib.Core.Bool.{true}
 use mathlib.Core.List.{List, [], ◌∷◌, ◌++◌}
@@ -20,8 +21,6 @@ use Rattle.flash.proofs.OperationLaws.{applied-append}
 use Rattle.slices.proofs.PatchLaws.{length-patch, part-patch, take-patch-below, drop-patch-above}
 use Rattle.page.specs.Chunks.{align_up, chunk_magic, chunk_header, next_offset, chunk_at, payload_at}
 use Rattle.page.specs.Walks.{walk_from, all_erased}
-use Rattle.page.specs.declared.chunk.Step.TheVariants as step
-use Rattle.page.specs.declared.walk.Ending.TheVariants.{EndAt}
 use Rattle.page.proofs.ChunkLaws.{chunk-past, end_below}
 use Rattle.page.proofs.ErasedLaws.{erased-blank, take-blank, drop-blank, chunk-blank}
 use Rattle.page.proofs.LaidLaws.{walk-ended}
@@ -38,7 +37,7 @@ swap c = ⊎_elim (λ a. inr a) (λ b. inl b) c
 -- a page whose chunks from s on end at o, and that reads as erased from there on
 pub record Room (e : ℕ) (page : List ℕ) (s o : ℕ) : Type 0 where
   pub whole : length page ≡ page_size
-  pub ends : (walk_from page s).ending ≡ EndAt o
+  pub ends : (walk_from page s).ending ≡ Ok o
   pub clean : all_erased e (drop o page) ≡ true
 
 module _ (e : ℕ) (unmarked : word (blank e 2) ≡ chunk_magic → ⊥) (page : List ℕ) (s o : ℕ) (room : Room e page s o) (payload : List ℕ) (bytes : Bytes payload) (ops : List Op)
@@ -102,7 +101,7 @@ module _ (e : ℕ) (unmarked : word (blank e 2) ≡ chunk_magic → ⊥) (page :
       ∙ ap (take n) (part-patch (o + 8) (payload ++ stored.padding) page p)
       ∙ take_at payload stored.padding n refl
 
-  chunk-there : chunk_at full o ≡ step.Chunk (length payload) (published payload) (next_offset o (length payload))
+  chunk-there : chunk_at full o ≡ Ok (Some (record { len = length payload; crc = published payload; next = next_offset o (length payload) }))
   chunk-there = chunk-put laid o (length payload) (published payload) (rw (length-patch, room.whole) (omega arith)) small fits (rw (length-patch, room.whole) fits) (published-fits payload)
 
   -- behind the new chunk the page is as it was
@@ -124,7 +123,7 @@ module _ (e : ℕ) (unmarked : word (blank e 2) ≡ chunk_magic → ⊥) (page :
       ∙ drop-blank e (page_size - o) (n - o)
       ∙ ap (blank e) (let m : page_size - o - (n - o) ≡ page_size - n = omega arith in m)
 
-  end-there : chunk_at full (next_offset o (length payload)) ≡ step.End
+  end-there : chunk_at full (next_offset o (length payload)) ≡ Ok None
   end-there =
       let n = next_offset o (length payload) in
       ⊎_elim
@@ -145,7 +144,7 @@ module _ (e : ℕ) (unmarked : word (blank e 2) ≡ chunk_magic → ⊥) (page :
   -- AFTER IT: one chunk more, with its payload and the right sum, and the page reads as erased behind it
   pub walk-after : (k : ℕ) → length ops ≤ k
       → walk_from (applied 0 (take k ops) page) s
-      ≡ record { chunks = (walk_from page s).chunks ++ (record { offset = o; len = length payload; crc = published payload } ∷ []); ending = EndAt (next_offset o (length payload)) }
+      ≡ record { chunks = (walk_from page s).chunks ++ (record { offset = o; len = length payload; crc = published payload } ∷ []); ending = Ok (next_offset o (length payload)) }
   walk-after k h =
       let n = next_offset o (length payload) in
       ap (λ (p : List ℕ). walk_from p s) (made_all k h) ∙ walk-added page full s o (length payload) (published payload) n room.ends full-short chunk-there end-there

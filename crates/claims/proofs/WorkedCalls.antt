@@ -1,5 +1,6 @@
 -- Calls of a writer, one after the other: two chunks and a page header between them, each store of a chunk on erased bytes. And a commit
 -- that is cut and made again. Assumes nothing.
+use Rattle.std.specs.Prelude.{Ok, Err, ⊤}
 use mathlib.Core.Bool.{false}
 use mathlib.Core.Path.{◌≡◌, refl, sym, ap, subst, ◌∙◌}
 use mathlib.Core.List.{List, [], ◌∷◌, map}
@@ -27,7 +28,6 @@ use Rattle.writer.specs.States.{fresh, in_range, new_writer}
 use Rattle.writer.specs.Checks.{writer_check, heading_check}
 use Rattle.writer.specs.Writes.{group_of, buffer_of, payload_ops, taking_ops, written}
 use Rattle.writer.specs.declared.answers.Ended.{Ended}
-use Rattle.types.specs.declared.answers.Outcome.TheVariants.{Done, Refused}
 use Rattle.writer.specs.declared.page_writer.PageWriter.{PageWriter}
 use Rattle.claims.specs.Sequences.{again_in, Making, makings, all_ops, AllLand}
 use Rattle.claims.specs.Untouched.{Uncovered}
@@ -38,14 +38,14 @@ use Rattle.claims.proofs.Elsewhere.{elsewhere}
 use Rattle.claims.proofs.ErasedLaws.{writes-on-erased}
 use Rattle.claims.proofs.Retried.{retried, refused-again}
 
-abbrev reopened : Ended
+abbrev reopened : Ended ⊤
 reopened = appended erase_value headed_flash worked_page 0 new_writer 9
 
 -- behind the page header
 abbrev writer : PageWriter
 writer = fresh false worked_page 0 12
 
-reopens : reopened ≡ record { answer = Done; writer = writer; left = 9 }
+reopens : reopened ≡ record { answer = Ok tt; writer = writer; left = 9 }
 unfolding word bytes_of blank page_header headed_flash chunk_at walk walk_from all_erased appended open_check
 reopens = refl
 
@@ -65,8 +65,8 @@ worked-stores = refl
 
 pub worked-on-erased : AllLand erase_value calls
 worked-on-erased =
-    subst (λ (o : Ended). AllLand erase_value (makings erase_value (opened_on headed_flash o) two_chunks)) reopens
-    (writes-on-erased erase_value headed_flash worked_page 0 new_writer 9 two_chunks (ap (λ (o : Ended). o.answer) reopens))
+    subst (λ (o : Ended ⊤). AllLand erase_value (makings erase_value (opened_on headed_flash o) two_chunks)) reopens
+    (writes-on-erased erase_value headed_flash worked_page 0 new_writer 9 two_chunks (ap (λ (o : Ended ⊤). o.answer) reopens))
 
 -- nine stores were allowed and five were made, so four are left
 pub worked-count : (length (all_ops calls) ≡ 5) × ((left_after (leaves_in erase_value) start two_chunks).left ≡ 4)
@@ -85,7 +85,7 @@ pending = written writer (6 ∷ [])
 abbrev with : ℕ → World
 with stores = in_world headed_flash pending stores
 
-cut-or-done : ((hands_back_in erase_value (with 1) commits).answer ≡ Refused Cut) × ((hands_back_in erase_value (with 2) commits).answer ≡ Done)
+cut-or-done : ((hands_back_in erase_value (with 1) commits).answer ≡ Err Cut) × ((hands_back_in erase_value (with 2) commits).answer ≡ Ok tt)
 unfolding bytes_of over patch blank page_header headed_flash in_range writer_check chunk_header chunk_ops group_of buffer_of
 cut-or-done = (refl, refl)
 
@@ -93,10 +93,10 @@ abbrev again : World
 again = again_in erase_value (with 1) commits 2
 
 -- made again with two stores it is done, and the flash is that of a commit with two stores from the start
-pub worked-retried : ((hands_back_in erase_value again commits).answer ≡ Done) × ((leaves_in erase_value again commits).flash ≡ (leaves_in erase_value (with 2) commits).flash)
+pub worked-retried : ((hands_back_in erase_value again commits).answer ≡ Ok tt) × ((leaves_in erase_value again commits).flash ≡ (leaves_in erase_value (with 2) commits).flash)
 worked-retried =
     let same = retried erase_value commits (with 1) 2 (omega arith) cut-or-done.0 in
-    (ap (λ (end : Ended). end.answer) same.0 ∙ cut-or-done.1, ap (λ (x : World). x.flash) same.1)
+    (ap (λ (end : Ended ⊤). end.answer) same.0 ∙ cut-or-done.1, ap (λ (x : World). x.flash) same.1)
 
 -- byte 24 lies behind both stores, and is as it was
 both-before : Uncovered 0 (makes (commit_duty erase_value headed_flash pending) 2) 24
@@ -113,11 +113,11 @@ worked-uncovered = (elsewhere (commit_duty erase_value headed_flash pending) pen
 abbrev too_long : AddCall
 too_long = heads worked_magic (1 ∷ 2 ∷ 3 ∷ 4 ∷ [])
 
-refused-there : (hands_back_in erase_value (with 1) too_long).answer ≡ Refused BadHeader
+refused-there : (hands_back_in erase_value (with 1) too_long).answer ≡ Err BadHeader
 unfolding bytes_of blank page_header headed_flash heading_check
 refused-there = refl
 
-pub worked-refused : (hands_back_in erase_value (again_in erase_value (with 1) too_long 0) too_long).answer ≡ Refused BadHeader
+pub worked-refused : (hands_back_in erase_value (again_in erase_value (with 1) too_long 0) too_long).answer ≡ Err BadHeader
 worked-refused =
-    ap (λ (end : Ended). end.answer)
+    ap (λ (end : Ended ⊤). end.answer)
     (refused-again erase_value too_long (with 1) BadHeader 0 refused-there (λ (e : BadHeader ≡ Cut). let z : ◌≡◌ {A = ℕ} 0 1 = cc in omega arith)).0

@@ -1,5 +1,6 @@
 -- Reads of a page with a damaged second chunk, asked three times, and skips over the border of two chunks, by computation. Assumes
 -- nothing.
+use Rattle.std.specs.Prelude.{Ok}
 use mathlib.Core.Bool.{xor}
 use mathlib.Core.Path.{◌≡◌, refl, sym, subst}
 use mathlib.Core.List.{List, [], ◌∷◌, flatten}
@@ -10,7 +11,6 @@ use native.Mathlib.Omega.{arith}
 use lib.ListN.{length}
 use Rattle.types.specs.Histories.{left_after}
 use Rattle.types.specs.Bytes.{word, bytes_of}
-use Rattle.types.specs.declared.refusal.Verdict.TheVariants.{Fine}
 use Rattle.crc.specs.Published as crc
 use Rattle.flash.specs.Geometry.{page_of}
 use Rattle.slices.specs.Patch.{over, blank}
@@ -24,7 +24,6 @@ use Rattle.reader.specs.Checks.{reader_check}
 use Rattle.reader.specs.Finds.{NotEmpty, reads}
 use Rattle.reader.specs.Moves.{moved, ready, rest_of, skip_by, skipped}
 use Rattle.reader.specs.States.{new_reader}
-use Rattle.reader.specs.declared.answers.Count.TheVariants as count
 use Rattle.reader.specs.declared.page_reader.PageReader.{PageReader}
 use Rattle.claims.specs.Again.{reader_left}
 use Rattle.claims.specs.ReaderHistories.{at_first, Asked, call_leaves, after_call, Among, Covered, NoneUnchecked}
@@ -92,8 +91,8 @@ ones i = 9 ∷ []
 abbrev Skips : List ℕ → List ℕ → ℕ → List ℕ → Type 0
 Skips flash before passed behind =
     let r = opened_on flash in
-    (found_from ones flash r ≡ record { bytes = before; ends = Fine })
-    × (((skip r flash 2).answer ≡ count.Bytes passed) × (found_from ones flash (skip r flash 2).reader ≡ record { bytes = behind; ends = Fine }))
+    (found_from ones flash r ≡ record { bytes = before; ends = Ok tt })
+    × (((skip r flash 2).answer ≡ Ok passed) × (found_from ones flash (skip r flash 2).reader ≡ record { bytes = behind; ends = Ok tt }))
 
 -- three bytes are found; a skip of two answers 2, and the last one is found behind it
 pub worked-skip : Skips two_chunk_flash (5 ∷ 6 ∷ 7 ∷ []) 2 (7 ∷ [])
@@ -108,7 +107,7 @@ among-all P (d ∷ ds) all c a = ⊎_elim (λ (q : c ≡ d). subst P (sym q) all
 abbrev behind_first : List Chunk
 behind_first = (walk_from (page_of 0 two_chunk_flash) (next_offset (opened_on two_chunk_flash).offset (opened_on two_chunk_flash).len)).chunks
 
-premises : ((opened_on two_chunk_flash).page.0 ≡ 0) × ((reader_check (length two_chunk_flash) (opened_on two_chunk_flash) ≡ Fine) × All NotEmpty behind_first)
+premises : ((opened_on two_chunk_flash).page.0 ≡ 0) × ((reader_check (length two_chunk_flash) (opened_on two_chunk_flash) ≡ Ok tt) × All NotEmpty behind_first)
 unfolding word bytes_of crc.bits crc.number crc.message crc.among crc.terms crc.generator xor crc.plus crc.divided crc.dividend crc.remainder crc.published blank chunk_header
     page_header chunk_of_one two_chunk_flash page_header_fine chunk_at checked_at open_check reader_check open_page walk walk_from
 premises = (refl, (refl, (omega arith, tt)))

@@ -1,14 +1,14 @@
 -- Adding one chunk to a page, call by call: open_append, writes of pieces until there are no more or one fills the chunk, then a
 -- commit. Each call gets what the one before it left, by the definitions that the calls promise. Assumes nothing.
-use Rattle.std.specs.Prelude.{Bool, cond, not, ◌&&◌, List, [], ◌∷◌, ◌++◌, ℕ, eqb, leb, length}
+use Rattle.std.specs.declared.result.Result.{Result}
+use Rattle.types.specs.declared.refusal.Refusal.{Refusal}
+use Rattle.std.specs.Prelude.{Bool, cond, not, ◌&&◌, List, [], ◌∷◌, ◌++◌, ℕ, eqb, leb, length, Ok, Err, ⊤}
 use Rattle.types.specs.declared.page_id.PageID.{PageID}
 use Rattle.flash.specs.Operations.{Op}
 use Rattle.writer.specs.Calls.{World, writes, commits, hands_back_in, leaves_in, opened_on}
 use Rattle.writer.specs.Commits.{commit_ops}
 use Rattle.writer.specs.Openings.{appended}
 use Rattle.writer.specs.Writes.{taken_of, grown, is_full, write_ops, written}
-use Rattle.types.specs.declared.answers.Outcome.{Outcome}
-use Rattle.types.specs.declared.answers.Outcome.TheVariants.{Done, Refused}
 use Rattle.writer.specs.declared.page_writer.PageWriter.{PageWriter}
 
 -- ---- the calls
@@ -18,9 +18,9 @@ abbrev pub fills : PageWriter → List ℕ → Bool
 fills w bytes = is_full (grown w (taken_of w bytes))
 
 -- a refused call is the last
-abbrev pub go_on : Outcome → List ℕ → List ℕ → List ℕ
-go_on Done further stopped = further
-go_on (Refused why) further stopped = stopped
+abbrev pub go_on : Result ⊤ Refusal → List ℕ → List ℕ → List ℕ
+go_on (Ok tt) further stopped = further
+go_on (Err why) further stopped = stopped
 
 -- the flash after writes of the pieces and a commit
 unfoldable pub after_writes : ℕ → List (List ℕ) → World → List ℕ

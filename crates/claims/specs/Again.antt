@@ -2,13 +2,11 @@
 -- original a reader that has refused a damaged chunk steps on, and asked again serves bytes that no sum covers. Assumes nothing.
 use Rattle.std.specs.Prelude.{◌≡◌, List, ℕ, length}
 use Rattle.types.specs.declared.page_id.PageID.{PageID}
-use Rattle.run.specs.declared.bound.Bound.{Bound}
-use Rattle.types.specs.Answers.{outcome_told, page_of_told}
-use Rattle.reader.specs.Answers.{count_told, end_test_told, dehydration_told}
+use Rattle.run.specs.Kinds.{Bound}
+use Rattle.types.specs.Answers.{number_told}
 use Rattle.reader.specs.Calls.{read_header, read_header_bytes, open_page, open_bytes, read, read_bytes, skip, is_at_eof, dehydrate, rehydrate_from, page_id}
 use Rattle.reader.specs.declared.dehydrated.DehydratedPageReader.{DehydratedPageReader}
 use Rattle.reader.specs.declared.page_reader.PageReader.{PageReader}
-use Rattle.cursor.specs.Answers.{next_told}
 use Rattle.cursor.specs.Next.{next_of, next_key, next_value}
 use Rattle.cursor.specs.declared.place.Cursor.{Cursor}
 
@@ -61,31 +59,31 @@ same_room asks_its_page buffer = 0
 
 unfoldable pub reader_left : List ℕ → Slots → ReaderCall → PageReader → List ℕ → Left PageReader (List ℕ)
 reader_left flash slots (reads_header magic page) r header = record {
-  number = (outcome_told (read_header flash magic page (length header))).number;
+  number = number_told (read_header flash magic page (length header));
   state = r;
   lent = read_header_bytes flash magic page header;
 }
 reader_left flash slots (opens magic page) r header = record {
-  number = (outcome_told (open_page r flash magic page (length header)).answer).number;
+  number = number_told (open_page r flash magic page (length header)).answer;
   state = (open_page r flash magic page (length header)).reader;
   lent = open_bytes r flash magic page header;
 }
 reader_left flash slots reads r buffer = record {
-  number = (count_told (read r flash (length buffer)).answer).number;
+  number = number_told (read r flash (length buffer)).answer;
   state = (read r flash (length buffer)).reader;
   lent = read_bytes r flash buffer;
 }
 reader_left flash slots (skips count) r buffer =
-    record { number = (count_told (skip r flash count).answer).number; state = (skip r flash count).reader; lent = buffer }
+    record { number = number_told (skip r flash count).answer; state = (skip r flash count).reader; lent = buffer }
 reader_left flash slots asks_for_its_end r buffer =
-    record { number = (end_test_told (is_at_eof r flash).answer).number; state = (is_at_eof r flash).reader; lent = buffer }
-reader_left flash slots (dehydrates slot) r buffer = record { number = (dehydration_told (dehydrate r)).number; state = r; lent = buffer }
+    record { number = number_told (is_at_eof r flash).answer; state = (is_at_eof r flash).reader; lent = buffer }
+reader_left flash slots (dehydrates slot) r buffer = record { number = number_told (dehydrate r); state = r; lent = buffer }
 reader_left flash slots (rehydrates slot) r buffer = record {
-  number = (outcome_told (rehydrate_from r flash (slots slot)).answer).number;
+  number = number_told (rehydrate_from r flash (slots slot)).answer;
   state = (rehydrate_from r flash (slots slot)).reader;
   lent = buffer;
 }
-reader_left flash slots asks_its_page r buffer = record { number = (page_of_told (page_id r)).number; state = r; lent = buffer }
+reader_left flash slots asks_its_page r buffer = record { number = number_told (page_id r); state = r; lent = buffer }
 
 -- ---- next, with the runs, their ends and the upper bound
 
@@ -102,7 +100,7 @@ rooms_of b = record { key = length b.key; value = length b.value }
 
 unfoldable pub next_left : List ℕ → List ℕ → Bound → List ℕ → Cursor → Buffers → Left Cursor Buffers
 next_left bytes ends bound upper c b = record {
-  number = (next_told (next_of bytes ends bound upper c (length b.key) (length b.value)).answer).number;
+  number = number_told (next_of bytes ends bound upper c (length b.key) (length b.value)).answer;
   state = (next_of bytes ends bound upper c (length b.key) (length b.value)).cursor;
   lent = record { key = next_key bytes ends bound upper c b.key b.value; value = next_value bytes ends bound upper c b.key b.value };
 }

@@ -1,32 +1,17 @@
 -- What each answer is told as (docs/RULES.md, Refusals, and the values of each call): every case of every answer
 -- type as a row of one table, with its number and its values. Assumes nothing.
-use Rattle.std.specs.Prelude.{true, false, List, [], ◌∷◌, map, ℕ, ℤ, pos, negsuc}
-use Rattle.types.specs.Answers.{Told, refusal, outcome_told, verdict_told, page_of_told, maybe_told}
-use Rattle.types.specs.declared.answers.Outcome.TheVariants as outcome
-use Rattle.types.specs.declared.answers.PageOf.TheVariants as of
-use Rattle.types.specs.declared.page_id.MaybePageID.TheVariants as maybe
+use Rattle.types.specs.Checks.{corruption}
+use Rattle.std.specs.Prelude.{true, false, List, [], ◌∷◌, map, ℕ, ℤ, pos, negsuc, Ok, Err, Some, None}
+use Rattle.types.specs.Answers.{Told, refusal, outcome_told, page_of_told, maybe_told}
 use Rattle.types.specs.declared.refusal.Refusal.TheVariants as row
-use Rattle.types.specs.declared.refusal.Verdict.TheVariants as verdict
 use Rattle.page.specs.Answers.{step_told, ending_told}
-use Rattle.page.specs.declared.chunk.Step.TheVariants as step
-use Rattle.page.specs.declared.walk.Ending.TheVariants as ending
 use Rattle.reader.specs.Answers as reader
-use Rattle.reader.specs.declared.answers.Count.TheVariants as count
-use Rattle.reader.specs.declared.answers.Dehydration.TheVariants as dehydration
 use Rattle.reader.specs.declared.answers.EndTest.TheVariants as end_test
 use Rattle.writer.specs.Answers.{taking_told, length_told}
-use Rattle.writer.specs.declared.answers.Length.TheVariants as len
-use Rattle.writer.specs.declared.answers.Taking.TheVariants as taking
 use Rattle.alloc.specs.Answers as alloc
-use Rattle.alloc.specs.declared.answers.Allocated.TheVariants as allocated
-use Rattle.alloc.specs.declared.answers.Count.TheVariants as pages
-use Rattle.alloc.specs.declared.answers.Margin.TheVariants as margin
 use Rattle.alloc.specs.declared.answers.Usage.TheVariants as usage
 use Rattle.run.specs.Answers.{head_told, sought_told}
-use Rattle.run.specs.declared.record.Head.TheVariants as head
-use Rattle.run.specs.declared.search.Sought.TheVariants as sought
 use Rattle.cursor.specs.Answers.{next_told}
-use Rattle.cursor.specs.declared.answers.NextAnswer.TheVariants as next
 
 -- what a definition makes of an answer, and the number and the values that it must be told as
 pub record AnswerRow : Type 0 where
@@ -56,70 +41,70 @@ answers =
     ∷ refuses (refusal row.BadRuns) 10
     ∷ refuses (refusal row.BadState) 11
     -- reset, mark_used, free, free_each; open, read_header, rehydrate_from; open_append, write_header, commit; new of a cursor
-    ∷ says (outcome_told outcome.Done) []
-    ∷ refuses (outcome_told (outcome.Refused row.Cut)) 9
+    ∷ says (outcome_told (Ok tt)) []
+    ∷ refuses (outcome_told (Err row.Cut)) 9
     -- the checks before the work
-    ∷ says (verdict_told verdict.Fine) []
-    ∷ refuses (verdict_told (verdict.Refused row.BadFlash)) 5
+    ∷ says (outcome_told (Ok tt)) []
+    ∷ refuses (outcome_told (Err row.BadFlash)) 5
     -- page_id
-    ∷ says (page_of_told (of.Page (record { 0 = 255 }))) (255 ∷ [])
-    ∷ refuses (page_of_told (of.Refused row.BadState)) 11
+    ∷ says (page_of_told (Ok (record { 0 = 255 }))) (255 ∷ [])
+    ∷ refuses (page_of_told (Err row.BadState)) 11
     -- a raw page number
-    ∷ says (maybe_told maybe.None) []
-    ∷ says (maybe_told (maybe.Some (record { 0 = 3 }))) (3 ∷ [])
+    ∷ says (maybe_told None) []
+    ∷ says (maybe_told (Some (record { 0 = 3 }))) (3 ∷ [])
     -- the walk
-    ∷ says (step_told step.End) []
-    ∷ refuses (step_told step.Corrupted) 1
-    ∷ says (step_told (step.Chunk 5 0x515AD3CC 28)) (5 ∷ 0x515AD3CC ∷ 28 ∷ [])
-    ∷ says (ending_told (ending.EndAt 24)) (24 ∷ [])
-    ∷ refuses (ending_told ending.Corrupted) 1
+    ∷ says (step_told (Ok None)) []
+    ∷ refuses (step_told (Err corruption)) 1
+    ∷ says (step_told (Ok (Some (record { len = 5; crc = 0x515AD3CC; next = 28 })))) (5 ∷ 0x515AD3CC ∷ 28 ∷ [])
+    ∷ says (ending_told (Ok 24)) (24 ∷ [])
+    ∷ refuses (ending_told (Err corruption)) 1
     -- read and skip
-    ∷ says (reader.count_told (count.Bytes 7)) (7 ∷ [])
-    ∷ refuses (reader.count_told (count.Refused row.Corrupted)) 1
+    ∷ says (reader.count_told (Ok 7)) (7 ∷ [])
+    ∷ refuses (reader.count_told (Err row.Corrupted)) 1
     -- is_at_eof
-    ∷ says (reader.end_test_told end_test.AtEnd) (1 ∷ [])
-    ∷ says (reader.end_test_told end_test.More) (0 ∷ [])
-    ∷ refuses (reader.end_test_told (end_test.Refused row.OutOfRange)) 4
+    ∷ says (reader.end_test_told (Ok end_test.AtEnd)) (1 ∷ [])
+    ∷ says (reader.end_test_told (Ok end_test.More)) (0 ∷ [])
+    ∷ refuses (reader.end_test_told (Err row.OutOfRange)) 4
     -- dehydrate: page, ended, offset, len, crc, position
-    ∷ says (reader.dehydration_told (dehydration.State (record { page = record { 0 = 3 }; ended = false; offset = 12; len = 5; crc = 9; position = 2 })))
+    ∷ says (reader.dehydration_told (Ok (record { page = record { 0 = 3 }; ended = false; offset = 12; len = 5; crc = 9; position = 2 })))
     (3 ∷ 0 ∷ 12 ∷ 5 ∷ 9 ∷ 2 ∷ [])
-    ∷ says (reader.dehydration_told (dehydration.State (record { page = record { 0 = 4 }; ended = true; offset = 24; len = 0; crc = 0; position = 0 })))
+    ∷ says (reader.dehydration_told (Ok (record { page = record { 0 = 4 }; ended = true; offset = 24; len = 0; crc = 0; position = 0 })))
     (4 ∷ 1 ∷ 24 ∷ 0 ∷ 0 ∷ 0 ∷ [])
-    ∷ refuses (reader.dehydration_told (dehydration.Refused row.BadState)) 11
+    ∷ refuses (reader.dehydration_told (Err row.BadState)) 11
     -- write
-    ∷ says (taking_told (taking.Took 4076)) (4076 ∷ [])
-    ∷ refuses (taking_told (taking.Refused row.Cut)) 9
+    ∷ says (taking_told (Ok 4076)) (4076 ∷ [])
+    ∷ refuses (taking_told (Err row.Cut)) 9
     -- len
-    ∷ says (length_told (len.Bytes 40)) (40 ∷ [])
-    ∷ refuses (length_told (len.Refused row.BadState)) 11
+    ∷ says (length_told (Ok 40)) (40 ∷ [])
+    ∷ refuses (length_told (Err row.BadState)) 11
     -- try_allocate
-    ∷ says (alloc.allocated_told (allocated.Page (record { 0 = 3 }))) (3 ∷ [])
-    ∷ says (alloc.allocated_told allocated.None) []
-    ∷ refuses (alloc.allocated_told (allocated.Refused row.BadState)) 11
+    ∷ says (alloc.allocated_told (Ok (Some (record { 0 = 3 })))) (3 ∷ [])
+    ∷ says (alloc.allocated_told (Ok None)) []
+    ∷ refuses (alloc.allocated_told (Err row.BadState)) 11
     -- is_used
-    ∷ says (alloc.usage_told usage.Used) (1 ∷ [])
-    ∷ says (alloc.usage_told usage.Free) (0 ∷ [])
-    ∷ refuses (alloc.usage_told (usage.Refused row.OutOfRange)) 4
+    ∷ says (alloc.usage_told (Ok usage.Used)) (1 ∷ [])
+    ∷ says (alloc.usage_told (Ok usage.Free)) (0 ∷ [])
+    ∷ refuses (alloc.usage_told (Err row.OutOfRange)) 4
     -- used_pages, free_pages, page_count; try_allocate_each, which tells the pages too
-    ∷ says (alloc.count_told (pages.Pages 100)) (100 ∷ [])
-    ∷ refuses (alloc.count_told (pages.Refused row.BadState)) 11
-    ∷ says (alloc.pages_told (pages.Pages 2) (3 ∷ 0 ∷ [])) (2 ∷ 3 ∷ 0 ∷ [])
-    ∷ refuses (alloc.pages_told (pages.Refused row.BadState) (3 ∷ [])) 11
+    ∷ says (alloc.count_told (Ok 100)) (100 ∷ [])
+    ∷ refuses (alloc.count_told (Err row.BadState)) 11
+    ∷ says (alloc.pages_told (Ok 2) (3 ∷ 0 ∷ [])) (2 ∷ 3 ∷ 0 ∷ [])
+    ∷ refuses (alloc.pages_told (Err row.BadState) (3 ∷ [])) 11
     -- margin
-    ∷ record { told = alloc.margin_told (margin.Pages (negsuc 0)); number = 0; values = negsuc 0 ∷ [] }
-    ∷ says (alloc.margin_told (margin.Pages (pos 12))) (12 ∷ [])
-    ∷ refuses (alloc.margin_told (margin.Refused row.BadCount)) 7
+    ∷ record { told = alloc.margin_told (Ok (negsuc 0)); number = 0; values = negsuc 0 ∷ [] }
+    ∷ says (alloc.margin_told (Ok (pos 12))) (12 ∷ [])
+    ∷ refuses (alloc.margin_told (Err row.BadCount)) 7
     -- a head: deleted, where the key, the value and the next record start
-    ∷ says (head_told head.Nothing) []
-    ∷ says (head_told (head.Record (record { deleted = false; key = 6; value = 7; next = 8 }))) (0 ∷ 6 ∷ 7 ∷ 8 ∷ [])
-    ∷ says (head_told (head.Record (record { deleted = true; key = 14; value = 15; next = 15 }))) (1 ∷ 14 ∷ 15 ∷ 15 ∷ [])
-    ∷ refuses (head_told (head.Refused row.LaterEdition)) 8
+    ∷ says (head_told (Ok None)) []
+    ∷ says (head_told (Ok (Some (record { deleted = false; key = 6; value = 7; next = 8 })))) (0 ∷ 6 ∷ 7 ∷ 8 ∷ [])
+    ∷ says (head_told (Ok (Some (record { deleted = true; key = 14; value = 15; next = 15 })))) (1 ∷ 14 ∷ 15 ∷ 15 ∷ [])
+    ∷ refuses (head_told (Err row.LaterEdition)) 8
     -- search
-    ∷ says (sought_told sought.Gone) []
-    ∷ says (sought_told (sought.At 8)) (8 ∷ [])
-    ∷ refuses (sought_told (sought.Refused row.Corrupted)) 1
+    ∷ says (sought_told (Ok None)) []
+    ∷ says (sought_told (Ok (Some 8))) (8 ∷ [])
+    ∷ refuses (sought_told (Err row.Corrupted)) 1
     -- next
-    ∷ says (next_told next.End) []
-    ∷ says (next_told (next.Entry 2 5)) (2 ∷ 5 ∷ [])
-    ∷ refuses (next_told (next.Refused row.ValueBufferTooSmall)) 3
+    ∷ says (next_told (Ok None)) []
+    ∷ says (next_told (Ok (Some (record { key_len = 2; value_len = 5 })))) (2 ∷ 5 ∷ [])
+    ∷ refuses (next_told (Err row.ValueBufferTooSmall)) 3
     ∷ []

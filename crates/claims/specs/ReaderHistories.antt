@@ -1,7 +1,9 @@
 -- Any history of a reader on a flash that stays as it is: calls one after the other, refused ones among them, each on the reader
 -- that the one before handed back. Readers are kept in slots and brought back from them. Beside each stands the opening that it
 -- comes from. And what a sum covers (docs/RULES.md, Reading). Assumes nothing.
-use Rattle.std.specs.Prelude.{◌≡◌, true, cond, List, [], ◌∷◌, ◌++◌, ◌⊎◌, ℕ, zero, suc, ◌+◌, ◌≤◌, eqb, length, take, drop}
+use Rattle.std.specs.declared.result.Result.{Result}
+use Rattle.types.specs.declared.refusal.Refusal.{Refusal}
+use Rattle.std.specs.Prelude.{◌≡◌, true, cond, List, [], ◌∷◌, ◌++◌, ◌⊎◌, ℕ, zero, suc, ◌+◌, ◌≤◌, eqb, length, take, drop, Ok, Err, ⊤}
 use Rattle.types.specs.Build.{page_header_size}
 use Rattle.types.specs.declared.page_id.PageID.{PageID}
 use Rattle.flash.specs.Geometry.{page_of}
@@ -10,12 +12,6 @@ use Rattle.page.specs.Walks.{Chunk, walk_from}
 use Rattle.reader.specs.Calls.{read_header, read_header_bytes, open_page, open_bytes, read, read_bytes, dehydrate}
 use Rattle.reader.specs.Finds.{payload_of, sum_right}
 use Rattle.reader.specs.States.{new_reader, stored}
-use Rattle.reader.specs.declared.answers.Count.{Count}
-use Rattle.reader.specs.declared.answers.Count.TheVariants as count
-use Rattle.reader.specs.declared.answers.Dehydration.{Dehydration}
-use Rattle.reader.specs.declared.answers.Dehydration.TheVariants as dehydration
-use Rattle.types.specs.declared.answers.Outcome.{Outcome}
-use Rattle.types.specs.declared.answers.Outcome.TheVariants as outcome
 use Rattle.reader.specs.declared.dehydrated.DehydratedPageReader.{DehydratedPageReader}
 use Rattle.reader.specs.declared.page_reader.PageReader.{PageReader}
 use Rattle.claims.specs.Again.{Left, IsRefused, Slots, ReaderCall, reads_header, opens, reads, skips, asks_for_its_end, dehydrates, rehydrates, asks_its_page, reader_left}
@@ -66,9 +62,9 @@ origin_by k (rehydrates slot) buffer = (k.slots slot).origin
 origin_by k asks_its_page buffer = k.origin
 
 -- the slots once dehydrate has answered: a state goes into its slot
-abbrev pub slot_filled : Held → ℕ → Dehydration → ℕ → Kept
-slot_filled k slot (dehydration.State d) other = cond (eqb slot other) (record { state = d; origin = k.origin }) (k.slots other)
-slot_filled k slot (dehydration.Refused why) other = k.slots other
+abbrev pub slot_filled : Held → ℕ → Result DehydratedPageReader Refusal → ℕ → Kept
+slot_filled k slot (Ok d) other = cond (eqb slot other) (record { state = d; origin = k.origin }) (k.slots other)
+slot_filled k slot (Err why) other = k.slots other
 
 abbrev pub slots_by : Held → ReaderCall → ℕ → Kept
 slots_by k (reads_header magic page) = k.slots
@@ -120,16 +116,16 @@ pub record PutCovered (flash : List ℕ) (from : Origin) (lent after : List ℕ)
   pub put : after ≡ bytes ++ drop n lent
 
 -- what a read puts, by its answer
-abbrev pub ReadPuts : List ℕ → Origin → List ℕ → List ℕ → Count → Type 0
-ReadPuts flash from lent after (count.Bytes zero) = after ≡ lent
-ReadPuts flash from lent after (count.Bytes (suc n)) = PutCovered flash from lent after (suc n)
-ReadPuts flash from lent after (count.Refused why) = after ≡ lent
+abbrev pub ReadPuts : List ℕ → Origin → List ℕ → List ℕ → Result ℕ Refusal → Type 0
+ReadPuts flash from lent after (Ok zero) = after ≡ lent
+ReadPuts flash from lent after (Ok (suc n)) = PutCovered flash from lent after (suc n)
+ReadPuts flash from lent after (Err why) = after ≡ lent
 
 -- what open and read_header put, by their answer: the bytes of a good header
-abbrev pub HeaderPuts : List ℕ → ℕ → PageID → List ℕ → List ℕ → Outcome → Type 0
-HeaderPuts flash magic page lent after outcome.Done =
+abbrev pub HeaderPuts : List ℕ → ℕ → PageID → List ℕ → List ℕ → Result ⊤ Refusal → Type 0
+HeaderPuts flash magic page lent after (Ok tt) =
     (after ≡ header_of (page_of page.0 flash) (length lent)) × (page_header_fine (page_of page.0 flash) magic page.0 (length lent) ≡ true)
-HeaderPuts flash magic page lent after (outcome.Refused why) = after ≡ lent
+HeaderPuts flash magic page lent after (Err why) = after ≡ lent
 
 -- what each call puts; only read_header, open and read are lent bytes
 abbrev pub Puts : List ℕ → Held → ReaderCall → List ℕ → Type 0

@@ -1,9 +1,9 @@
 -- The reference cases (docs/RULES.md, Reference cases), all of them, as one table of cases in its order. Each case stands in
 -- the crate whose calls it is about, and comes to what the definitions give that those calls promise. Assumes nothing.
+use Rattle.page.specs.Chunks.{Step}
 use Rattle.std.specs.Prelude.{List, [], ◌∷◌}
 use Rattle.types.specs.Answers.{Told}
 use Rattle.page.specs.WalkTable as walks
-use Rattle.page.specs.declared.chunk.Step.{Step}
 use Rattle.run.specs.Items.{Item}
 use Rattle.run.specs.RecordTable as records
 use Rattle.cursor.specs.ReferenceCases as merges

@@ -1,5 +1,6 @@
 pub mod BraidLaws
 pub mod DividesLaws
+pub mod EntryLaws
 pub mod NibbleLaws
 pub mod RegisterLaws
 pub mod RemainderLaws

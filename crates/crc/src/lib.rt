@@ -6,7 +6,6 @@ mod bitwise;
 mod braid;
 pub mod nibble;
 pub mod register;
-mod word;
 
 ghost use Rattle.std.specs.Prelude.{◌≡◌};
 ghost use Rattle.crc.specs.Published.{published};

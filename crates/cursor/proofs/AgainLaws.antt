@@ -1,5 +1,10 @@
 -- A refused call of next, made again with the cursor that came back, is refused again: the last pass begins anew from places of
 -- which it had only made some runs gone, and these show it the same. Assumes nothing.
+use Rattle.cursor.specs.declared.answers.Entry.{Entry}
+use Rattle.std.specs.declared.option.Option.{Option}
+use Rattle.std.specs.Prelude.{Ok, Err}
+use Rattle.cursor.specs.Answers.{NextAnswer}
+use Rattle.std.specs.declared.result.Result.{Result}
 use mathlib.Core.Path.{◌≡◌, refl, sym, ◌∙◌, ap}
 use mathlib.Core.Bool.{Bool, true, false, cond}
 use mathlib.Core.List.{List, [], ◌∷◌}
@@ -8,23 +13,18 @@ use native.Mathlib.Nat.{le_refl}
 use native.Mathlib.Omega.{arith}
 use lib.ListN.{length, set}
 use Rattle.types.specs.Build.{file_count}
-use Rattle.types.specs.Checks.{refused_or}
+use Rattle.types.specs.Checks.{refused_or, Verdict}
 use Rattle.types.specs.declared.refusal.Refusal.{Refusal}
-use Rattle.run.specs.declared.bound.Bound.{Bound}
+use Rattle.run.specs.Kinds.{Bound}
 use Rattle.cursor.specs.Checks.{good_runs, next_check}
 use Rattle.cursor.specs.Next.{entry_answer, places_by, put_by, moved_by, entry_by, refused_next, next_of, next_key, next_value}
-use Rattle.cursor.specs.Pass.{look_at, lowest_key, shows, with_gone, with_holder, with_lowest, change, pass_from, unseen, pass_of}
+use Rattle.cursor.specs.Pass.{look_at, lowest_key, shows, with_gone, with_holder, with_lowest, change, pass_from, unseen, pass_of, Lowest}
 use Rattle.cursor.specs.Places.{gone, place_of}
 use Rattle.cursor.specs.Runs.{run_of}
 use Rattle.cursor.specs.Settle.{is_hidden, bytes_ahead, settle_from, settled}
 use Rattle.cursor.specs.declared.answers.Moved.{Moved}
-use Rattle.cursor.specs.declared.answers.NextAnswer.{NextAnswer}
-use Rattle.cursor.specs.declared.answers.NextAnswer.TheVariants.{Refused}
-use Rattle.types.specs.declared.refusal.Verdict.{Verdict}
-use Rattle.types.specs.declared.refusal.Verdict.TheVariants as check
 use Rattle.cursor.specs.declared.look.Look.{Look}
 use Rattle.cursor.specs.declared.look.Look.TheVariants as look
-use Rattle.cursor.specs.declared.look.Lowest.{Lowest}
 use Rattle.cursor.specs.declared.pass.Pass.{Pass}
 use Rattle.cursor.specs.declared.place.Cursor.{Cursor}
 use Rattle.cursor.specs.declared.place.Place.{Place}
@@ -46,13 +46,13 @@ module _ (bytes ends : List ℕ) (bound : Bound) (upper : List ℕ) where
 
   -- a look at run i leaves the place of an earlier one
   look-earlier : (i k : ℕ) → k < i → (p : Pass) (later : Pass → Pass) → ((q : Pass) → place_of (later q).places k ≡ place_of q.places k)
-      → (l : Look) → place_of (change l i p later).places k ≡ place_of p.places k
+      → (l : Result Look Refusal) → place_of (change l i p later).places k ≡ place_of p.places k
   unfolding change
-  look-earlier i k b p later on look.Gone = on (with_gone i p) ∙ set_other p.places i k gone (λ e. omega arith)
-  look-earlier i k b p later on look.Above = on p
-  look-earlier i k b p later on (look.Level r) = on (with_holder i r p)
-  look-earlier i k b p later on (look.Below r) = on (with_lowest i r p)
-  look-earlier i k b p later on (look.Refused why) = refl
+  look-earlier i k b p later on (Ok look.Gone) = on (with_gone i p) ∙ set_other p.places i k gone (λ e. omega arith)
+  look-earlier i k b p later on (Ok look.Above) = on p
+  look-earlier i k b p later on (Ok (look.Level r)) = on (with_holder i r p)
+  look-earlier i k b p later on (Ok (look.Below r)) = on (with_lowest i r p)
+  look-earlier i k b p later on (Err why) = refl
 
   earlier : (count i k : ℕ) → k < i → (p : Pass) → place_of (pass_from bytes ends bound upper count i p).places k ≡ place_of p.places k
   unfolding pass_from
@@ -68,7 +68,7 @@ module _ (bytes ends : List ℕ) (bound : Bound) (upper : List ℕ) where
       ap (λ (x : Place). look_at (run_of bytes ends i) x bound upper q.lowest (lowest_key bytes ends q.lowest)) e
       ∙ ap (λ (x : Lowest). look_at (run_of bytes ends i) (place_of p.places i) bound upper x (lowest_key bytes ends x)) l
 
-  pub shows-gone : (i : ℕ) (q : Pass) → place_of q.places i ≡ Gone → shows bytes ends bound upper i q ≡ look.Gone
+  pub shows-gone : (i : ℕ) (q : Pass) → place_of q.places i ≡ Gone → shows bytes ends bound upper i q ≡ Ok look.Gone
   unfolding shows look_at
   shows-gone i q e = ap (λ (x : Place). look_at (run_of bytes ends i) x bound upper q.lowest (lowest_key bytes ends q.lowest)) e
 
@@ -80,25 +80,25 @@ module _ (bytes ends : List ℕ) (bound : Bound) (upper : List ℕ) where
   -- one look, where the later looks come to the same again
   module _ (i : ℕ) (p q : Pass) (later : Pass → Pass) (stays : (x : Pass) → place_of (later x).places i ≡ place_of x.places i)
       (on : (x y : Pass) → y.lowest ≡ x.lowest → y.places ≡ (later x).places → Alike (later y) (later x)) (l : q.lowest ≡ p.lowest) where
-    same-look : (w : Look) → shows bytes ends bound upper i p ≡ w → place_of q.places i ≡ place_of p.places i → w ≡ shows bytes ends bound upper i q
+    same-look : (w : Result Look Refusal) → shows bytes ends bound upper i p ≡ w → place_of q.places i ≡ place_of p.places i → w ≡ shows bytes ends bound upper i q
     same-look w s e = sym (shows_alike i p q l e ∙ s)
 
-    again_by : (w : Look) → shows bytes ends bound upper i p ≡ w → q.places ≡ (change w i p later).places
+    again_by : (w : Result Look Refusal) → shows bytes ends bound upper i p ≡ w → q.places ≡ (change w i p later).places
         → Alike (change (shows bytes ends bound upper i q) i q later) (change w i p later)
     unfolding change
-    again_by look.Gone s e =
+    again_by (Ok look.Gone) s e =
         let g : place_of q.places i ≡ Gone = ap (λ (r : List RunPlace). place_of r i) e ∙ stays (with_gone i p) ∙ set-gone p.places i in
         rw (shows-gone i q g) (on (with_gone i p) (with_gone i q) l (set-gone-again q.places i g ∙ e))
-    again_by look.Above s e =
-        rw (← same-look look.Above s (ap (λ (r : List RunPlace). place_of r i) e ∙ stays p)) (on p q l e)
-    again_by (look.Level r) s e =
-        rw (← same-look (look.Level r) s (ap (λ (r : List RunPlace). place_of r i) e ∙ stays (with_holder i r p)))
+    again_by (Ok look.Above) s e =
+        rw (← same-look (Ok look.Above) s (ap (λ (r : List RunPlace). place_of r i) e ∙ stays p)) (on p q l e)
+    again_by (Ok (look.Level r)) s e =
+        rw (← same-look (Ok (look.Level r)) s (ap (λ (r : List RunPlace). place_of r i) e ∙ stays (with_holder i r p)))
         (on (with_holder i r p) (with_holder i r q) refl e)
-    again_by (look.Below r) s e =
-        rw (← same-look (look.Below r) s (ap (λ (r : List RunPlace). place_of r i) e ∙ stays (with_lowest i r p)))
+    again_by (Ok (look.Below r)) s e =
+        rw (← same-look (Ok (look.Below r)) s (ap (λ (r : List RunPlace). place_of r i) e ∙ stays (with_lowest i r p)))
         (on (with_lowest i r p) (with_lowest i r q) refl e)
-    again_by (look.Refused why) s e =
-        rw (← same-look (look.Refused why) s (ap (λ (r : List RunPlace). place_of r i) e)) (record { lowest = refl; places = e })
+    again_by (Err why) s e =
+        rw (← same-look (Err why) s (ap (λ (r : List RunPlace). place_of r i) e)) (record { lowest = refl; places = e })
 
   -- from the places that a pass comes to, it comes to them again
   again-from : (count i : ℕ) (p q : Pass) → q.lowest ≡ p.lowest → q.places ≡ (pass_from bytes ends bound upper count i p).places
@@ -162,23 +162,23 @@ module _ (bytes ends : List ℕ) (bound : Bound) (upper : List ℕ) where
 
   module _ (key_room value_room : ℕ) (why : Refusal) where
     -- a refusal keeps the places of the last pass
-    refused-moved : (a : NextAnswer) (p : Pass) → a ≡ Refused why → moved_by a p ≡ record { cursor = record { places = p.places }; answer = Refused why }
+    refused-moved : (a : NextAnswer) (p : Pass) → a ≡ Err why → moved_by a p ≡ record { cursor = record { places = p.places }; answer = Err why }
     unfolding moved_by places_by
     refused-moved a p e = ap (λ (x : NextAnswer). record { cursor = record { places = places_by x p }; answer = x }) e
 
-    moved-answer : (a : NextAnswer) (p : Pass) → (moved_by a p).answer ≡ Refused why → a ≡ Refused why
+    moved-answer : (a : NextAnswer) (p : Pass) → (moved_by a p).answer ≡ Err why → a ≡ Err why
     unfolding moved_by
     moved-answer a p e = e
 
-    fine-next : (c : Cursor) → next_check (length bytes) ends c.places ≡ check.Fine → next_of bytes ends bound upper c key_room value_room
+    fine-next : (c : Cursor) → next_check (length bytes) ends c.places ≡ Ok tt → next_of bytes ends bound upper c key_room value_room
         ≡ moved_by (entry_answer bytes ends (settled bytes ends bound upper c.places).lowest key_room value_room) (settled bytes ends bound upper c.places)
     unfolding next_of
     fine-next c k = rw k
 
     -- from the places of a last pass that is refused, the call is refused and they stay
-    last-refused : good_runs (length bytes) ends ≡ true → (p : Pass) → Last p → entry_answer bytes ends p.lowest key_room value_room ≡ Refused why
+    last-refused : good_runs (length bytes) ends ≡ true → (p : Pass) → Last p → entry_answer bytes ends p.lowest key_room value_room ≡ Err why
         → next_of bytes ends bound upper (record { places = p.places }) key_room value_room
-        ≡ record { cursor = record { places = p.places }; answer = Refused why }
+        ≡ record { cursor = record { places = p.places }; answer = Err why }
     last-refused g p k e =
         let good : Good ends p.places = rw k.is (pass-good bytes ends bound upper k.from k.good).0 in
         let a = last-again p k in
@@ -186,30 +186,30 @@ module _ (bytes ends : List ℕ) (bound : Bound) (upper : List ℕ) where
         fine-next (record { places = p.places }) (good-check ends p.places good (length bytes) g)
         ∙ refused-moved (entry_answer bytes ends s.lowest key_room value_room) s
         (ap (λ (x : Lowest). entry_answer bytes ends x key_room value_room) a.lowest ∙ e)
-        ∙ ap (λ (r : List RunPlace). record { cursor = record { places = r }; answer = Refused why }) a.places
+        ∙ ap (λ (r : List RunPlace). record { cursor = record { places = r }; answer = Err why }) a.places
 
     next-by : (c : Cursor) (v : Verdict) → next_check (length bytes) ends c.places ≡ v
         → let moved = refused_or v (refused_next c) (entry_by bytes ends key_room value_room (settled bytes ends bound upper c.places)) in
-        moved.answer ≡ Refused why → next_of bytes ends bound upper moved.cursor key_room value_room ≡ moved
+        moved.answer ≡ Err why → next_of bytes ends bound upper moved.cursor key_room value_room ≡ moved
     unfolding next_of
-    next-by c (check.Refused x) k e = rw k
-    next-by c check.Fine k e =
+    next-by c (Err x) k e = rw k
+    next-by c (Ok tt) k e =
         let p = settled bytes ends bound upper c.places in
         let a = entry_answer bytes ends p.lowest key_room value_room in
-        let r : a ≡ Refused why = moved-answer a p e in
+        let r : a ≡ Err why = moved-answer a p e in
         let g = check-good ends c.places (length bytes) k in
-        ap (λ (m : Moved). next_of bytes ends bound upper m.cursor key_room value_room) (refused-moved a p r)
+        ap (λ (m : Moved (Option Entry)). next_of bytes ends bound upper m.cursor key_room value_room) (refused-moved a p r)
         ∙ last-refused g.0 p (settled-last (good-few (length bytes) ends g.0) c.places g.1) r ∙ sym (refused-moved a p r)
 
     -- THE SAME CALL AGAIN gives the same refusal and the same cursor
-    pub next-again : (c : Cursor) → (next_of bytes ends bound upper c key_room value_room).answer ≡ Refused why
+    pub next-again : (c : Cursor) → (next_of bytes ends bound upper c key_room value_room).answer ≡ Err why
         → next_of bytes ends bound upper (next_of bytes ends bound upper c key_room value_room).cursor key_room value_room
         ≡ next_of bytes ends bound upper c key_room value_room
     unfolding next_of
     next-again c e = next-by c (next_check (length bytes) ends c.places) refl e
 
   -- a refused call leaves both buffers
-  module _ (c : Cursor) (key value : List ℕ) (why : Refusal) (e : (next_of bytes ends bound upper c (length key) (length value)).answer ≡ Refused why) where
+  module _ (c : Cursor) (key value : List ℕ) (why : Refusal) (e : (next_of bytes ends bound upper c (length key) (length value)).answer ≡ Err why) where
     pub key-kept : next_key bytes ends bound upper c key value ≡ key
     unfolding next_key put_by
     key-kept = rw e

@@ -7,10 +7,9 @@ use Prim.Native.Nat.{ℕ}
 use Rattle.run.specs.Bounds.{is_past}
 use Rattle.run.specs.Items.{Item, Below}
 use Rattle.keys.specs.Keys.{compare_keys}
-use Rattle.run.specs.declared.bound.Bound.{Bound}
-use Rattle.run.specs.declared.bound.Bound.TheVariants.{Unbounded, Included, Excluded}
-use Rattle.keys.specs.declared.order.Ordering.{Ordering}
-use Rattle.keys.specs.declared.order.Ordering.TheVariants.{Less, Equal, Greater}
+use Rattle.run.specs.Kinds.{Bound, Unbounded, Included, Excluded}
+use Rattle.std.specs.declared.cmp.Ordering.{Ordering}
+use Rattle.std.specs.declared.cmp.Ordering.TheVariants.{Less, Equal, Greater}
 use Rattle.keys.proofs.OrderLaws.{turned, is_less, compare-turned, above-third, below-compared}
 use Rattle.run.proofs.BoundLaws.{past_by-unbounded, past_by-included, past_by-excluded, past-later}
 use Rattle.run.proofs.ItemLaws.{below-first, below_rest}

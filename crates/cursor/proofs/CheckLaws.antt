@@ -1,8 +1,8 @@
 -- The checks of the run ends and of the places: one turn of each loop. Assumes nothing.
-use mathlib.Core.Path.{◌≡◌}
+use mathlib.Core.Path.{◌≡◌, ap}
 use mathlib.Core.Bool.{Bool, true, false, ◌&&◌}
 use mathlib.Core.List.{List}
-use Prim.Native.Nat.{ℕ, suc, ◌+◌, ◌-◌, ◌≤◌, ◌<◌}
+use Prim.Native.Nat.{ℕ, zero, suc, ◌+◌, ◌≤◌, ◌<◌}
 use native.Mathlib.Numerals.{add-one}
 use native.Mathlib.Omega.{arith}
 use lib.Dec.{leb}
@@ -12,7 +12,8 @@ use borrow.Author.Tests.{leb-true, lt-leb, le-leb}
 use Rattle.types.specs.Build.{file_count}
 use Rattle.types.proofs.TestLaws.{both_true}
 use Rattle.cursor.specs.Checks.{rising_ends, good_runs, good_place, good_from}
-use Rattle.cursor.specs.Places.{place_of}
+use Rattle.std.specs.List.{list_all, enumerate_from}
+use Rattle.cursor.specs.Places.{gone, place_of}
 use Rattle.cursor.specs.Runs.{end_of}
 use Rattle.cursor.specs.declared.place.RunPlace.{RunPlace}
 
@@ -43,21 +44,16 @@ module _ (size from : ℕ) (ends : List ℕ) (i : ℕ) (answer : Bool) (rest : r
 
 -- ---- the places
 
-module _ (ends : List ℕ) (places : List RunPlace) (i : ℕ) (answer : Bool) (rest : good_from ends places (file_count - i) i ≡ answer) where
-  pub places-none : file_count ≤ i → true ≡ answer
-  unfolding good_from
-  places-none h = let z : file_count - i ≡ 0 = omega arith in rw z at rest
+-- whether a place with its number is good
+abbrev pub NumberedGood : List ℕ → ℕ × RunPlace → Bool
+NumberedGood ends x = good_place ends x.0 x.1.place
 
-  module _ (h : i < file_count) (b : Bool) (is : b ≡ good_place ends i (place_of places i)) where
-    pub place-bad : b ≡ false → false ≡ answer
-    unfolding good_from
-    place-bad q = let z : file_count - i ≡ suc (file_count - (i + 1)) = omega arith in rw (z, ← is, q) at rest
-
-    pub place-good : b ≡ true → good_from ends places (file_count - (i + 1)) (i + 1) ≡ answer
-    unfolding good_from
-    place-good q =
-        let z : file_count - i ≡ suc (file_count - (i + 1)) = omega arith in
-        rw (add-one i) (rw (z, ← is, q, add-one i) at rest)
+pub numbered : (ends : List ℕ) (places : List RunPlace) (count i : ℕ) → i + count ≡ length places
+    → list_all (NumberedGood ends) (enumerate_from i (drop i places)) ≡ good_from ends places count i
+unfolding good_from
+numbered ends places zero i h = rw (drop_of_length-le places {i = i} (omega arith))
+numbered ends places (suc count) i h =
+    rw (drop-cons places i gone (omega arith)) (rw (add-one i) (ap (λ (b : Bool). good_place ends i (place_of places i) && b) (numbered ends places count (suc i) (omega arith))))
 
 -- ---- what a passed check tells
 

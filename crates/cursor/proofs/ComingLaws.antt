@@ -1,4 +1,5 @@
 -- What passes over deletions come to: the first live pair of all runs together, or that there is none. Assumes nothing.
+use Rattle.std.specs.Prelude.{Ok, Err, Some, None}
 use mathlib.Core.Path.{◌≡◌, refl, ◌∙◌, ap}
 use mathlib.Core.Bool.{Bool, true, false, cond}
 use mathlib.Core.List.{List, [], ◌∷◌}
@@ -9,15 +10,13 @@ use lib.ListN.{length}
 use Rattle.types.specs.Build.{file_count}
 use Rattle.run.specs.Items.{Item}
 use Rattle.run.specs.Records.{key_in, value_in}
-use Rattle.run.specs.declared.bound.Bound.{Bound}
+use Rattle.run.specs.Kinds.{Bound}
 use Rattle.run.specs.declared.record.Record.{Record}
 use Rattle.cursor.specs.Merged.{Pair}
-use Rattle.cursor.specs.Pass.{pass_of}
+use Rattle.cursor.specs.Pass.{pass_of, Lowest}
 use Rattle.cursor.specs.Runs.{run_of}
 use Rattle.cursor.specs.Settle.{is_hidden, bytes_ahead, settle_from, settled}
 use Rattle.cursor.specs.Union.{union, lives}
-use Rattle.cursor.specs.declared.look.Lowest.{Lowest}
-use Rattle.cursor.specs.declared.look.Lowest.TheVariants.{None, Found, Refused}
 use Rattle.cursor.specs.declared.pass.Pass.{Pass}
 use Rattle.cursor.specs.declared.place.RunPlace.{RunPlace}
 use Rattle.cursor.proofs.FallLaws.{falls}
@@ -44,30 +43,30 @@ module _ (bytes ends : List ℕ) (bound : Bound) (upper : List ℕ) where
       pub first : coming ends items ≡ pair_of bytes ends j x ∷ coming ends rest
 
     abbrev pub Comes : Pass → Lowest → Type 0
-    Comes p None = coming ends items ≡ []
-    Comes p (Found j x) = First p j x
-    Comes p (Refused why) = ⊥
+    Comes p (Ok None) = coming ends items ≡ []
+    Comes p (Ok (Some held)) = First p held.run held.head
+    Comes p (Err why) = ⊥
 
     -- a pass that found no deletion
     live-comes : (p : Pass) (l : Lowest) → Tops bytes ends bound upper items (length ends) p l → is_hidden l ≡ false → Comes p l
     unfolding is_hidden
-    live-comes p None t d = lives-none (union (length ends) items) t
-    live-comes p (Found j x) t d = record {
+    live-comes p (Ok None) t d = lives-none (union (length ends) items) t
+    live-comes p (Ok (Some held)) t d = record {
       fits = t.fits;
       rest = t.rest;
       left = t.left;
-      first = ap lives t.first ∙ lives-live (item_of bytes ends j x) (union (length ends) t.rest) d;
+      first = ap lives t.first ∙ lives-live (item_of bytes ends held.run held.head) (union (length ends) t.rest) d;
     }
-    live-comes p (Refused why) t d = t
+    live-comes p (Err why) t d = t
 
     -- one that found a deletion
     hidden-rest : (p : Pass) (l : Lowest) → Tops bytes ends bound upper items (length ends) p l → is_hidden l ≡ true
         → (rest : ℕ → List Item) × Left bytes ends bound upper rest p.stepped × (coming ends items ≡ coming ends rest)
     unfolding is_hidden
-    hidden-rest p None t d = let z : false ≡ true = d in let y : ◌≡◌ {A = ℕ} 0 1 = cc in absurd (omega arith)
-    hidden-rest p (Found j x) t d =
-        (t.rest, t.left, ap lives t.first ∙ lives-hidden (item_of bytes ends j x) (union (length ends) t.rest) d)
-    hidden-rest p (Refused why) t d = absurd t
+    hidden-rest p (Ok None) t d = let z : false ≡ true = d in let y : ◌≡◌ {A = ℕ} 0 1 = cc in absurd (omega arith)
+    hidden-rest p (Ok (Some held)) t d =
+        (t.rest, t.left, ap lives t.first ∙ lives-hidden (item_of bytes ends held.run held.head) (union (length ends) t.rest) d)
+    hidden-rest p (Err why) t d = absurd t
 
     pub record Settled (p : Pass) : Type 0 where
       pub comes : Comes p p.lowest
@@ -75,9 +74,9 @@ module _ (bytes ends : List ℕ) (bound : Bound) (upper : List ℕ) where
       pub stepped : Good ends p.stepped
 
   comes-same : (items rest : ℕ → List Item) (p : Pass) (l : Lowest) → coming ends items ≡ coming ends rest → Comes rest p l → Comes items p l
-  comes-same items rest p None e c = e ∙ c
-  comes-same items rest p (Found j x) e c = record { fits = c.fits; rest = c.rest; left = c.left; first = e ∙ c.first }
-  comes-same items rest p (Refused why) e c = c
+  comes-same items rest p (Ok None) e c = e ∙ c
+  comes-same items rest p (Ok (Some held)) e c = record { fits = c.fits; rest = c.rest; left = c.left; first = e ∙ c.first }
+  comes-same items rest p (Err why) e c = c
 
   module _ (few : length ends ≤ file_count) (start : List RunPlace) (items : ℕ → List Item) (l : Left bytes ends bound upper items start) (g : Good ends start) where
     found : Takes bytes ends bound upper items (length ends) (pass_of bytes ends bound upper start)

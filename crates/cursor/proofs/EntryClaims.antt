@@ -1,6 +1,8 @@
 -- What an entry is on any runs, whatever the calls after it answer. A pass found it: it is a record at the head of its run,
 -- no run's head is below it, no newer run holds its key, and its holders have stepped on. It is live, and its key and value
 -- stand at the start of their buffers. Assumes nothing.
+use Rattle.std.specs.Prelude.{Ok, Err, Some, None}
+use Rattle.cursor.specs.Answers.{NextAnswer}
 use mathlib.Core.Path.{◌≡◌, refl, sym, ◌∙◌, ap}
 use mathlib.Core.Bool.{Bool, true, false, cond}
 use mathlib.Core.List.{List}
@@ -11,23 +13,18 @@ use lib.Dec.{ltb}
 use lib.ListN.{length, take}
 use borrow.Author.Tests.{ltb-false}
 use Rattle.types.specs.Build.{file_count}
-use Rattle.types.specs.Checks.{refused_or}
+use Rattle.types.specs.Checks.{refused_or, Verdict}
 use Rattle.types.specs.declared.refusal.Refusal.TheVariants.{KeyBufferTooSmall, ValueBufferTooSmall}
-use Rattle.types.specs.declared.refusal.Verdict.{Verdict}
-use Rattle.types.specs.declared.refusal.Verdict.TheVariants as check
 use Rattle.slices.proofs.PatchLaws.{part-over}
 use Rattle.run.specs.Records.{key_in, value_in}
-use Rattle.run.specs.declared.bound.Bound.{Bound}
+use Rattle.run.specs.Kinds.{Bound}
 use Rattle.run.specs.declared.record.Record.{Record}
 use Rattle.cursor.specs.Checks.{next_check}
 use Rattle.cursor.specs.Next.{fitted, answer_by, entry_answer, places_by, put_by, moved_by, entry_by, refused_next, next_of, next_key, next_value}
-use Rattle.cursor.specs.Pass.{lowest_key, lowest_value, pass_of}
+use Rattle.cursor.specs.Pass.{lowest_key, lowest_value, pass_of, Lowest}
 use Rattle.cursor.specs.Runs.{run_of}
 use Rattle.cursor.specs.Settle.{is_hidden, bytes_ahead, settle_from, settled}
-use Rattle.cursor.specs.declared.answers.NextAnswer.{NextAnswer}
-use Rattle.cursor.specs.declared.answers.NextAnswer.TheVariants.{Entry, Refused}
-use Rattle.cursor.specs.declared.look.Lowest.{Lowest}
-use Rattle.cursor.specs.declared.look.Lowest.TheVariants as low
+use Rattle.cursor.specs.declared.answers.Entry.{Entry}
 use Rattle.cursor.specs.declared.pass.Pass.{Pass}
 use Rattle.cursor.specs.declared.place.Cursor.{Cursor}
 use Rattle.cursor.specs.declared.place.RunPlace.{RunPlace}
@@ -37,13 +34,15 @@ use Rattle.cursor.proofs.PassClaims.{Finds, pass-finds}
 
 -- an entry is answered only where both have room
 room_by : (key_room value_room key_len value_len k v : ℕ) (s t : Bool) → ltb key_room key_len ≡ s → ltb value_room value_len ≡ t
-    → cond s (Refused KeyBufferTooSmall) (cond t (Refused ValueBufferTooSmall) (Entry key_len value_len)) ≡ Entry k v
+    → cond {A = NextAnswer} s (Err KeyBufferTooSmall) (cond t (Err ValueBufferTooSmall) (Ok (Some (record { key_len = key_len; value_len = value_len }))))
+    ≡ Ok (Some (record { key_len = k; value_len = v }))
     → (key_len ≡ k) × (value_len ≡ v) × (key_len ≤ key_room) × (value_len ≤ value_room)
 room_by key_room value_room key_len value_len k v true t p q e = let z : ◌≡◌ {A = ℕ} 0 1 = cc in absurd (omega arith)
 room_by key_room value_room key_len value_len k v false true p q e = let z : ◌≡◌ {A = ℕ} 0 1 = cc in absurd (omega arith)
 room_by key_room value_room key_len value_len k v false false p q e =
-    let ek : key_len ≡ k = cc in
-    let ev : value_len ≡ v = cc in
+    let same : ◌≡◌ {A = Entry} (record { key_len = key_len; value_len = value_len }) (record { key_len = k; value_len = v }) = cc in
+    let ek : key_len ≡ k = ap (λ (x : Entry). x.key_len) same in
+    let ev : value_len ≡ v = ap (λ (x : Entry). x.value_len) same in
     (ek, ev, ltb-false key_room key_len p, ltb-false value_room value_len q)
 
 module _ (bytes ends : List ℕ) (bound : Bound) (upper : List ℕ) where
@@ -92,30 +91,30 @@ module _ (bytes ends : List ℕ) (bound : Bound) (upper : List ℕ) where
       pub value-is : take v (next_value bytes ends bound upper c key value) ≡ value_in (run_of bytes ends run) held
       pub steps : (next_of bytes ends bound upper c (length key) (length value)).cursor.places ≡ (pass_of bytes ends bound upper start).stepped
 
-    fine-by : (ch : Verdict) (p : Pass) → (refused_or ch (refused_next c) (entry_by bytes ends (length key) (length value) p)).answer ≡ Entry k v
-        → (ch ≡ check.Fine) × (entry_answer bytes ends p.lowest (length key) (length value) ≡ Entry k v)
+    fine-by : (ch : Verdict) (p : Pass) → (refused_or ch (refused_next c) (entry_by bytes ends (length key) (length value) p)).answer ≡ Ok (Some (record { key_len = k; value_len = v }))
+        → (ch ≡ Ok tt) × (entry_answer bytes ends p.lowest (length key) (length value) ≡ Ok (Some (record { key_len = k; value_len = v })))
         × ((refused_or ch (refused_next c) (entry_by bytes ends (length key) (length value) p)).cursor.places ≡ p.stepped)
     unfolding moved_by places_by
-    fine-by check.Fine p e = (refl, e, ap (λ (a : NextAnswer). places_by a p) e)
-    fine-by (check.Refused why) p e = let z : ◌≡◌ {A = ℕ} 0 1 = cc in absurd (omega arith)
+    fine-by (Ok tt) p e = (refl, e, ap (λ (a : NextAnswer). places_by a p) e)
+    fine-by (Err why) p e = let z : ◌≡◌ {A = ℕ} 0 1 = cc in absurd (omega arith)
 
-    found-by : (l : Lowest) → entry_answer bytes ends l (length key) (length value) ≡ Entry k v
-        → (j : ℕ) × (x : Record) × (l ≡ low.Found j x) × (length (key_in (run_of bytes ends j) x) ≡ k)
+    found-by : (l : Lowest) → entry_answer bytes ends l (length key) (length value) ≡ Ok (Some (record { key_len = k; value_len = v }))
+        → (j : ℕ) × (x : Record) × (l ≡ Ok (Some (record { run = j; head = x }))) × (length (key_in (run_of bytes ends j) x) ≡ k)
         × (length (value_in (run_of bytes ends j) x) ≡ v) × (length (key_in (run_of bytes ends j) x) ≤ length key)
         × (length (value_in (run_of bytes ends j) x) ≤ length value)
     unfolding answer_by fitted lowest_key lowest_value
-    found-by low.None e = let z : ◌≡◌ {A = ℕ} 0 1 = cc in absurd (omega arith)
-    found-by (low.Found j x) e = let room = room_by _ _ _ _ k v _ _ refl refl e in (j, x, refl, room.0, room.1, room.2, room.3)
-    found-by (low.Refused why) e = let z : ◌≡◌ {A = ℕ} 0 1 = cc in absurd (omega arith)
+    found-by (Ok None) e = let z : ◌≡◌ {A = ℕ} 0 1 = cc in absurd (omega arith)
+    found-by (Ok (Some held)) e = let room = room_by _ _ _ _ k v _ _ refl refl e in (held.run, held.head, refl, room.0, room.1, room.2, room.3)
+    found-by (Err why) e = let z : ◌≡◌ {A = ℕ} 0 1 = cc in absurd (omega arith)
 
-    module _ (e : (next_of bytes ends bound upper c (length key) (length value)).answer ≡ Entry k v) where
-      fine : (next_check (length bytes) ends c.places ≡ check.Fine)
-          × (entry_answer bytes ends last.lowest (length key) (length value) ≡ Entry k v)
+    module _ (e : (next_of bytes ends bound upper c (length key) (length value)).answer ≡ Ok (Some (record { key_len = k; value_len = v }))) where
+      fine : (next_check (length bytes) ends c.places ≡ Ok tt)
+          × (entry_answer bytes ends last.lowest (length key) (length value) ≡ Ok (Some (record { key_len = k; value_len = v })))
           × ((next_of bytes ends bound upper c (length key) (length value)).cursor.places ≡ last.stepped)
       unfolding next_of
       fine = fine-by (next_check (length bytes) ends c.places) last e
 
-      module _ (j : ℕ) (x : Record) (f : last.lowest ≡ low.Found j x) where
+      module _ (j : ℕ) (x : Record) (f : last.lowest ≡ Ok (Some (record { run = j; head = x }))) where
         key-put : length (key_in (run_of bytes ends j) x) ≡ k → length (key_in (run_of bytes ends j) x) ≤ length key
             → take k (next_key bytes ends bound upper c key value) ≡ key_in (run_of bytes ends j) x
         unfolding next_key put_by lowest_key
@@ -135,7 +134,7 @@ module _ (bytes ends : List ℕ) (bound : Bound) (upper : List ℕ) where
           let few : length ends ≤ file_count = next-few (length bytes) ends c.places fine.0 in
           let l = settled-live few c.places in
           let w = found-by last.lowest fine.1 in
-          let f : last.lowest ≡ low.Found w.0 w.1 = w.2 in
+          let f : last.lowest ≡ Ok (Some (record { run = w.0; head = w.1 })) = w.2 in
           let same : last.lowest ≡ (pass_of bytes ends bound upper l.0).lowest = ap (λ (p : Pass). p.lowest) l.1 in
           record {
             start = l.0;

@@ -1,5 +1,6 @@
 -- A pass that finds a record leaves fewer bytes to the places that it steps on to, so that further passes end. Assumes
 -- nothing.
+use Rattle.std.specs.Prelude.{Ok, Err, Some, None}
 use mathlib.Core.Path.{◌≡◌, refl}
 use mathlib.Core.Bool.{Bool, true, false}
 use mathlib.Core.List.{List}
@@ -10,17 +11,15 @@ use native.Mathlib.Omega.{arith}
 use lib.ListN.{length, set}
 use Rattle.types.specs.Build.{file_count}
 use Rattle.types.proofs.TestLaws.{eq-or-ne}
-use Rattle.run.specs.declared.bound.Bound.{Bound}
-use Rattle.keys.specs.declared.order.Ordering.{Ordering}
+use Rattle.run.specs.Kinds.{Bound}
+use Rattle.std.specs.declared.cmp.Ordering.{Ordering}
 use Rattle.run.specs.declared.record.Record.{Record}
 use Rattle.run.proofs.FitLaws.{head-lies}
 use Rattle.slices.proofs.PartLaws.{part-fits}
-use Rattle.cursor.specs.Pass.{with_gone, pass_of}
+use Rattle.cursor.specs.Pass.{with_gone, pass_of, Lowest}
 use Rattle.cursor.specs.Places.{gone, at_place, place_of}
 use Rattle.cursor.specs.Runs.{start_of, end_of, run_of}
 use Rattle.cursor.specs.Settle.{is_hidden, left_at, ahead_in, sum_to, bytes_ahead}
-use Rattle.cursor.specs.declared.look.Lowest.{Lowest}
-use Rattle.cursor.specs.declared.look.Lowest.TheVariants.{None, Found, Refused}
 use Rattle.cursor.specs.declared.pass.Pass.{Pass}
 use Rattle.cursor.specs.declared.place.Place.TheVariants.{At}
 use Rattle.cursor.specs.declared.place.RunPlace.{RunPlace}
@@ -64,9 +63,9 @@ module _ (ends : List ℕ) where
 module _ (bytes ends : List ℕ) (bound : Bound) (upper : List ℕ) (start : List RunPlace) where
   -- the run that decides has fewer bytes left
   abbrev Nearer : ℕ → Pass → Lowest → Type 0
-  Nearer i p None = Unit {0}
-  Nearer i p (Found j r) = (j < i) × (ahead_in ends p.stepped j < ahead_in ends p.places j)
-  Nearer i p (Refused why) = Unit {0}
+  Nearer i p (Ok None) = Unit {0}
+  Nearer i p (Ok (Some held)) = (held.run < i) × (ahead_in ends p.stepped held.run < ahead_in ends p.places held.run)
+  Nearer i p (Err why) = Unit {0}
 
   record Falls (i : ℕ) (p : Pass) : Type 0 where
     places : (j : ℕ) → ahead_in ends p.places j ≤ ahead_in ends start j
@@ -74,16 +73,16 @@ module _ (bytes ends : List ℕ) (bound : Bound) (upper : List ℕ) (start : Lis
     nearer : Nearer i p p.lowest
 
   nearer-later : (i : ℕ) (p : Pass) (l : Lowest) → Nearer i p l → Nearer (suc i) p l
-  nearer-later i p None h = tt
-  nearer-later i p (Found j r) h = (omega arith, h.1)
-  nearer-later i p (Refused why) h = tt
+  nearer-later i p (Ok None) h = tt
+  nearer-later i p (Ok (Some held)) h = (omega arith, h.1)
+  nearer-later i p (Err why) h = tt
 
   nearer-gone : (i : ℕ) (p : Pass) (l : Lowest) → Nearer i p l → Nearer (suc i) (with_gone i p) l
-  nearer-gone i p None h = tt
-  nearer-gone i p (Found j r) h =
-      let n : j ≡ i → ⊥ = λ e. omega arith in
-      (omega arith, rw (left_other ends p.stepped i j gone n, left_other ends p.places i j gone n) h.1)
-  nearer-gone i p (Refused why) h = tt
+  nearer-gone i p (Ok None) h = tt
+  nearer-gone i p (Ok (Some held)) h =
+      let n : held.run ≡ i → ⊥ = λ e. omega arith in
+      (omega arith, rw (left_other ends p.stepped i held.run gone n, left_other ends p.places i held.run gone n) h.1)
+  nearer-gone i p (Err why) h = tt
 
   falls-gone : (i : ℕ) (p : Pass) → Falls i p → Falls (suc i) (with_gone i p)
   falls-gone i p h = record {
@@ -97,7 +96,7 @@ module _ (bytes ends : List ℕ) (bound : Bound) (upper : List ℕ) (start : Lis
   -- run i steps on in a row of places that has no more left than the other
   falls-on : (i : ℕ) (p : Pass) (at : ℕ) (r : Record) (o : Ordering) → Falls i p → Sees bytes ends bound upper i p at r o
       → (row : List RunPlace) → ((j : ℕ) → ahead_in ends row j ≤ ahead_in ends p.places j)
-      → Falls (suc i) (record { places = p.places; stepped = set row i (at_place r.next); lowest = Found i r })
+      → Falls (suc i) (record { places = p.places; stepped = set row i (at_place r.next); lowest = Ok (Some (record { run = i; head = r })) })
   falls-on i p at r o h s row k =
       let l = head-lies (run_of bytes ends i) at r s.head in
       let strict : ahead_in ends (set row i (at_place r.next)) i < ahead_in ends p.places i
@@ -119,16 +118,16 @@ module _ (bytes ends : List ℕ) (bound : Bound) (upper : List ℕ) (start : Lis
   found-falls : (p : Pass) → length ends ≤ file_count → Falls (length ends) p → (l : Lowest) → p.lowest ≡ l → is_hidden l ≡ true
       → bytes_ahead ends p.stepped < bytes_ahead ends start
   unfolding bytes_ahead is_hidden
-  found-falls p few h None e t = let z : ◌≡◌ {A = Bool} false true = t in let y : ◌≡◌ {A = ℕ} 0 1 = cc in absurd (omega arith)
-  found-falls p few h (Found j r) e t =
-      let n : Nearer (length ends) p (Found j r) = rw e at h.nearer in
-      let small : j < file_count = omega (arith, n.0) in
+  found-falls p few h (Ok None) e t = let z : ◌≡◌ {A = Bool} false true = t in let y : ◌≡◌ {A = ℕ} 0 1 = cc in absurd (omega arith)
+  found-falls p few h (Ok (Some held)) e t =
+      let n : Nearer (length ends) p (Ok (Some held)) = rw e at h.nearer in
+      let small : held.run < file_count = omega (arith, n.0) in
       omega (
         arith,
-        sum_lt file_count (ahead_in ends p.stepped) (ahead_in ends p.places) h.stepped j small n.1,
+        sum_lt file_count (ahead_in ends p.stepped) (ahead_in ends p.places) h.stepped held.run small n.1,
         sum-le file_count (ahead_in ends p.places) (ahead_in ends start) h.places,
       )
-  found-falls p few h (Refused why) e t = let z : ◌≡◌ {A = Bool} false true = t in let y : ◌≡◌ {A = ℕ} 0 1 = cc in absurd (omega arith)
+  found-falls p few h (Err why) e t = let z : ◌≡◌ {A = Bool} false true = t in let y : ◌≡◌ {A = ℕ} 0 1 = cc in absurd (omega arith)
 
   after-falls : (p : Pass) → length ends ≤ file_count → After bytes ends bound upper Falls p → is_hidden p.lowest ≡ true
       → bytes_ahead ends p.stepped < bytes_ahead ends start

@@ -1,4 +1,5 @@
 -- A cursor that is within its ranges stays there: passes step on within the runs. Assumes nothing.
+use Rattle.std.specs.Prelude.{Ok}
 use mathlib.Core.Path.{◌≡◌, refl, sym, ◌∙◌}
 use mathlib.Core.Bool.{true}
 use mathlib.Core.List.{List}
@@ -12,8 +13,8 @@ use Rattle.types.specs.Build.{file_count}
 use Rattle.types.specs.declared.refusal.Refusal.TheVariants.{BadRuns, BadState}
 use Rattle.types.proofs.CheckLaws.{asking-fine}
 use Rattle.types.proofs.TestLaws.{eq-or-ne, both_true}
-use Rattle.run.specs.declared.bound.Bound.{Bound}
-use Rattle.keys.specs.declared.order.Ordering.{Ordering}
+use Rattle.run.specs.Kinds.{Bound}
+use Rattle.std.specs.declared.cmp.Ordering.{Ordering}
 use Rattle.run.specs.declared.record.Record.{Record}
 use Rattle.run.proofs.FitLaws.{head-lies}
 use Rattle.slices.proofs.PartLaws.{part-fits}
@@ -21,7 +22,6 @@ use Rattle.cursor.specs.Checks.{good_runs, good_place, good_from, good_places, n
 use Rattle.cursor.specs.Pass.{pass_of}
 use Rattle.cursor.specs.Places.{gone, at_place, place_of}
 use Rattle.cursor.specs.Runs.{start_of, end_of, run_of}
-use Rattle.types.specs.declared.refusal.Verdict.TheVariants.{Fine}
 use Rattle.cursor.specs.declared.pass.Pass.{Pass}
 use Rattle.cursor.specs.declared.place.Place.{Place}
 use Rattle.cursor.specs.declared.place.Place.TheVariants.{At, Gone}
@@ -46,7 +46,7 @@ module _ (ends : List ℕ) (places : List RunPlace) (h : Good ends places) where
   good-from zero i f = refl
   good-from (suc count) i f = rw (good-place i (omega arith) (place_of places i) refl, good-from count (suc i) (omega arith))
 
-  pub good-check : (size : ℕ) → good_runs size ends ≡ true → next_check size ends places ≡ Fine
+  pub good-check : (size : ℕ) → good_runs size ends ≡ true → next_check size ends places ≡ Ok tt
   unfolding next_check good_places
   good-check size g = rw (g, good-from file_count 0 (omega arith))
 
@@ -70,7 +70,7 @@ module _ (ends : List ℕ) (places : List RunPlace) where
       ⊎_elim (λ (q : k ≡ i). rw q (place-good i (place_of places i) b.0 at (rw q at e)))
       (λ (n : k ≡ i → ⊥). from-good count (suc i) b.1 k at (omega arith) (omega arith) e) (eq-or-ne k i)
 
-  pub check-good : (size : ℕ) → next_check size ends places ≡ Fine → (good_runs size ends ≡ true) × Good ends places
+  pub check-good : (size : ℕ) → next_check size ends places ≡ Ok tt → (good_runs size ends ≡ true) × Good ends places
   unfolding next_check good_places
   check-good size e =
       let r = asking-fine (good_runs size ends) BadRuns _ e in

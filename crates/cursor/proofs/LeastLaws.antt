@@ -1,5 +1,6 @@
 -- What a pass finds, as docs/RULES.md, Merge has it: of the lowest key the highest run decides, all runs holding it step on, and
 -- no other run moves. Assumes nothing.
+use Rattle.std.specs.Prelude.{Ok, Err, Some, None}
 use mathlib.Core.Path.{◌≡◌, refl, sym, ◌∙◌}
 use mathlib.Core.Bool.{false}
 use mathlib.Core.List.{List}
@@ -12,17 +13,14 @@ use Rattle.types.proofs.TestLaws.{eq-or-ne}
 use Rattle.run.specs.Bounds.{is_past}
 use Rattle.keys.specs.Keys.{compare_keys}
 use Rattle.run.specs.Records.{head_at, key_in}
-use Rattle.run.specs.declared.bound.Bound.{Bound}
-use Rattle.keys.specs.declared.order.Ordering.{Ordering}
-use Rattle.keys.specs.declared.order.Ordering.TheVariants.{Less, Equal, Greater}
+use Rattle.run.specs.Kinds.{Bound}
+use Rattle.std.specs.declared.cmp.Ordering.{Ordering}
+use Rattle.std.specs.declared.cmp.Ordering.TheVariants.{Less, Equal, Greater}
 use Rattle.run.specs.declared.record.Record.{Record}
-use Rattle.run.specs.declared.record.Head.TheVariants as head
 use Rattle.keys.proofs.OrderLaws.{compare-itself, compare-equal, less-less, greater-less, less-greater}
-use Rattle.cursor.specs.Pass.{against_lowest, lowest_key, with_gone, with_holder, with_lowest, pass_of}
+use Rattle.cursor.specs.Pass.{against_lowest, lowest_key, with_gone, with_holder, with_lowest, pass_of, Lowest}
 use Rattle.cursor.specs.Places.{gone, at_place, place_of}
 use Rattle.cursor.specs.Runs.{run_of}
-use Rattle.cursor.specs.declared.look.Lowest.{Lowest}
-use Rattle.cursor.specs.declared.look.Lowest.TheVariants.{None, Found, Refused}
 use Rattle.cursor.specs.declared.pass.Pass.{Pass}
 use Rattle.cursor.specs.declared.place.Place.{Place}
 use Rattle.cursor.specs.declared.place.Place.TheVariants.{At, Gone}
@@ -44,7 +42,7 @@ module _ (bytes ends : List ℕ) (bound : Bound) (upper : List ℕ) where
   -- run i has a head: a record that is not past the bound
   pub record Has (row : List RunPlace) (i at : ℕ) (r : Record) : Type 0 where
     pub place : place_of row i ≡ At at
-    pub head : head_at (run_of bytes ends i) at ≡ head.Record r
+    pub head : head_at (run_of bytes ends i) at ≡ Ok (Some r)
     pub within : is_past bound upper (key_of i r) ≡ false
 
   -- how run i fares beside run j that decides, by the order of its key to the lowest
@@ -61,9 +59,9 @@ module _ (bytes ends : List ℕ) (bound : Bound) (upper : List ℕ) where
     pub others : (i at : ℕ) (r : Record) → i < n → Has p.places i at r → Beside i j r p (compare_keys (key_of i r) (key_of j x))
 
   abbrev pub Stands : ℕ → Pass → Lowest → Type 0
-  Stands n p None = (i : ℕ) → i < n → place_of p.places i ≡ Gone
-  Stands n p (Found j x) = Decides n p j x
-  Stands n p (Refused why) = ⊥
+  Stands n p (Ok None) = (i : ℕ) → i < n → place_of p.places i ≡ Gone
+  Stands n p (Ok (Some held)) = Decides n p held.run held.head
+  Stands n p (Err why) = ⊥
 
   pub record Least (start : List RunPlace) (n : ℕ) (p : Pass) : Type 0 where
     -- a run is where it was, or it had ended and is gone
@@ -82,7 +80,7 @@ module _ (bytes ends : List ℕ) (bound : Bound) (upper : List ℕ) where
   one-head row i at at' r r' h k =
       let a : At at' ≡ At at = sym k.place ∙ h.place in
       let e : at' ≡ at = cc in
-      let g : head.Record r' ≡ head.Record r = sym k.head ∙ rw e h.head in
+      let g : Ok (Some r') ≡ Ok (Some r) = sym k.head ∙ rw e h.head in
       cc
 
   not-less : (i j : ℕ) (r : Record) (p : Pass) (o : Ordering) → Beside i j r p o → o ≡ Less → ⊥
@@ -108,18 +106,18 @@ module _ (bytes ends : List ℕ) (bound : Bound) (upper : List ℕ) where
     gone-beside k j r Greater n b = set_other p.stepped i k gone n ∙ b ∙ sym (set_other p.places i k gone n)
 
     gone-stands : (l : Lowest) → Stands i p l → Stands (suc i) (with_gone i p) l
-    gone-stands None s =
+    gone-stands (Ok None) s =
         λ k b. ⊎_elim (λ e. rw e (set-gone p.places i)) (λ n. set_other p.places i k gone n ∙ s k (omega arith)) (eq-or-ne k i)
-    gone-stands (Found j x) s = record {
+    gone-stands (Ok (Some held)) s = record {
       below = omega (arith, s.below);
       at = s.at;
-      holds = still-has p.places i j s.at x (λ e. omega (arith, s.below)) s.holds;
+      holds = still-has p.places i held.run s.at held.head (λ e. omega (arith, s.below)) s.holds;
       others = λ k at r b g.
           let w = has-still p.places i k at r g in
           let n : k ≡ i → ⊥ = w.0 in
-          gone-beside k j r (compare_keys (key_of k r) (key_of j x)) n (s.others k at r (omega arith) w.1);
+          gone-beside k held.run r (compare_keys (key_of k r) (key_of held.run held.head)) n (s.others k at r (omega arith) w.1);
     }
-    gone-stands (Refused why) s = s
+    gone-stands (Err why) s = s
 
     gone-row : (row : List RunPlace) (k : ℕ) (x : Place) → place_of row k ≡ x → (k ≡ i → ⊥) → place_of (set row i gone) k ≡ x
     gone-row row k x e n = set_other row i k gone n ∙ e
@@ -149,8 +147,8 @@ module _ (bytes ends : List ℕ) (bound : Bound) (upper : List ℕ) where
       -- run i decides: it steps on, in a row in which the other runs fare as they did
       decides : (row : List RunPlace) → place_of row i ≡ At at
           → ((k at' : ℕ) (r' : Record) → k < i → Has p.places k at' r'
-          → Beside k i r' (record { places = p.places; stepped = set row i (at_place r.next); lowest = Found i r }) (compare_keys (key_of k r') (key_of i r)))
-          → Decides (suc i) (record { places = p.places; stepped = set row i (at_place r.next); lowest = Found i r }) i r
+          → Beside k i r' (record { places = p.places; stepped = set row i (at_place r.next); lowest = Ok (Some (record { run = i; head = r })) }) (compare_keys (key_of k r') (key_of i r)))
+          → Decides (suc i) (record { places = p.places; stepped = set row i (at_place r.next); lowest = Ok (Some (record { run = i; head = r })) }) i r
       decides row a others = record {
         below = omega arith;
         at = at;
@@ -167,13 +165,13 @@ module _ (bytes ends : List ℕ) (bound : Bound) (upper : List ℕ) where
       below-others : (l : Lowest) → Stands i p l → against_lowest l (lowest_key bytes ends l) (key_of i r) ≡ Less
           → (k at' : ℕ) (r' : Record) → k < i → Has p.places k at' r' → Beside k i r' (with_lowest i r p) (compare_keys (key_of k r') (key_of i r))
       unfolding against_lowest lowest_key
-      below-others None st q = λ k at' r' b g. at-gone (place_of p.places k) at' g.place (st k b)
-      below-others (Found j x) st q =
+      below-others (Ok None) st q = λ k at' r' b g. at-gone (place_of p.places k) at' g.place (st k b)
+      below-others (Ok (Some held)) st q =
           λ k at' r' b g.
-          rw (not-below (key_of k r') (key_of j x) (key_of i r) q _ refl
-          (not-less k j r' p (compare_keys (key_of k r') (key_of j x)) (st.others k at' r' b g)))
+          rw (not-below (key_of k r') (key_of held.run held.head) (key_of i r) q _ refl
+          (not-less k held.run r' p (compare_keys (key_of k r') (key_of held.run held.head)) (st.others k at' r' b g)))
           (set_other p.places i k (at_place r.next) (λ e. omega arith))
-      below-others (Refused why) st q = absurd st
+      below-others (Err why) st q = absurd st
 
       -- the lowest key again: the holders before it keep their step
       level-beside : (k j : ℕ) (r' : Record) (w : Ordering) → k < i → Beside k j r' p w → Beside k i r' (with_holder i r p) w
@@ -184,18 +182,18 @@ module _ (bytes ends : List ℕ) (bound : Bound) (upper : List ℕ) where
       level-others : (l : Lowest) → Stands i p l → against_lowest l (lowest_key bytes ends l) (key_of i r) ≡ Equal
           → (k at' : ℕ) (r' : Record) → k < i → Has p.places k at' r' → Beside k i r' (with_holder i r p) (compare_keys (key_of k r') (key_of i r))
       unfolding against_lowest lowest_key
-      level-others None st q = let z : ◌≡◌ {A = ℕ} 0 1 = cc in absurd (omega arith)
-      level-others (Found j x) st q =
+      level-others (Ok None) st q = let z : ◌≡◌ {A = ℕ} 0 1 = cc in absurd (omega arith)
+      level-others (Ok (Some held)) st q =
           λ k at' r' b g.
-          rw (compare-equal (key_of i r) (key_of j x) q)
-          (level-beside k j r' (compare_keys (key_of k r') (key_of j x)) b (st.others k at' r' b g))
-      level-others (Refused why) st q = absurd st
+          rw (compare-equal (key_of i r) (key_of held.run held.head) q)
+          (level-beside k held.run r' (compare_keys (key_of k r') (key_of held.run held.head)) b (st.others k at' r' b g))
+      level-others (Err why) st q = absurd st
 
       -- a key above the lowest: nothing changes
       above-stands : (l : Lowest) → Stands i p l → against_lowest l (lowest_key bytes ends l) (key_of i r) ≡ Greater → Stands (suc i) p l
       unfolding against_lowest lowest_key
-      above-stands None st q = let z : ◌≡◌ {A = ℕ} 0 1 = cc in absurd (omega arith)
-      above-stands (Found j x) st q = record {
+      above-stands (Ok None) st q = let z : ◌≡◌ {A = ℕ} 0 1 = cc in absurd (omega arith)
+      above-stands (Ok (Some held)) st q = record {
         below = omega (arith, st.below);
         at = st.at;
         holds = st.holds;
@@ -206,7 +204,7 @@ module _ (bytes ends : List ℕ) (bound : Bound) (upper : List ℕ) where
             rw e (rw same (rw q (h.ahead i (le_refl i)))))
             (λ n. st.others k at' r' (omega arith) g) (eq-or-ne k i);
       }
-      above-stands (Refused why) st q = st
+      above-stands (Err why) st q = st
 
       -- a run that had ended is another one, or is gone
       seen-gone : (k : ℕ) → k < suc i → Ended bytes ends bound upper start k → place_of p.places k ≡ Gone

@@ -12,7 +12,6 @@ pub mod GoodLaws
 pub mod HandLaws
 pub mod LeastLaws
 pub mod LiveLaws
-pub mod LookLaws
 pub mod MergeClaims
 pub mod MergeLaws
 pub mod NextLaws

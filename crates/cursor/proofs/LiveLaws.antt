@@ -8,8 +8,8 @@ use Prim.Native.Nat.{ℕ}
 use native.Mathlib.Omega.{arith}
 use Rattle.run.specs.Items.{Item, Below, Rising, nothing, deleted, live, said_by, said_in}
 use Rattle.keys.specs.Keys.{compare_keys}
-use Rattle.keys.specs.declared.order.Ordering.{Ordering}
-use Rattle.keys.specs.declared.order.Ordering.TheVariants.{Less, Equal, Greater}
+use Rattle.std.specs.declared.cmp.Ordering.{Ordering}
+use Rattle.std.specs.declared.cmp.Ordering.TheVariants.{Less, Equal, Greater}
 use Rattle.keys.proofs.OrderLaws.{compare-itself, compare-equal, less-greater}
 use Rattle.run.proofs.ItemLaws.{below_more, below-first, below_rest, rising-more, rising-first, rising-rest}
 use Rattle.run.proofs.ItemLaws.{said_in-none, said_in-less, said_in-equal, said_in-greater}

@@ -1,6 +1,7 @@
 -- The claim on a whole merge (docs/RULES.md, Merge). On runs that read to their ends with strictly rising keys, a new cursor is made, and
 -- calls of next with room for any key and value hand out exactly the live keys of all runs together that lie within the
 -- bounds, the newest run deciding each key, in rising order, each once. Assumes nothing.
+use Rattle.std.specs.Prelude.{Ok}
 use mathlib.Core.Path.{◌≡◌, refl, sym, ◌∙◌, subst}
 use mathlib.Core.Bool.{Bool, true, false, cond}
 use mathlib.Core.List.{List}
@@ -9,13 +10,12 @@ use native.Mathlib.Omega.{arith}
 use lib.ListN.{length}
 use Rattle.types.specs.Build.{max_key_size, max_value_size}
 use Rattle.run.specs.Items.{Item, Reads, Rising, Said, nothing, live, said_in}
-use Rattle.run.specs.declared.bound.Bound.{Bound}
+use Rattle.run.specs.Kinds.{Bound}
 use Rattle.cursor.specs.Checks.{good_runs}
 use Rattle.cursor.specs.Merged.{said, between, Pair, Hands, Merged}
 use Rattle.cursor.specs.New.{new_of}
 use Rattle.cursor.specs.Runs.{run_of}
 use Rattle.cursor.specs.Union.{union, lives}
-use Rattle.types.specs.declared.answers.Outcome.TheVariants.{Done}
 use Rattle.cursor.proofs.CheckLaws.{good-few}
 use Rattle.cursor.proofs.HandLaws.{hands}
 use Rattle.cursor.proofs.LiveLaws.{rising-lives, lives-sound, lives-complete}
@@ -51,7 +51,7 @@ module _ (bytes ends : List ℕ) (good : good_runs (length bytes) ends ≡ true)
     (low : Bound) (lower : List ℕ) (high : Bound) (upper : List ℕ)
     (key value : List ℕ) (key_room : max_key_size ≤ length key) (value_room : max_value_size ≤ length value) where
   -- a cursor is made, and calls of next come to their end
-  pub merge-hands : ((new_of bytes ends low lower).answer ≡ Done)
+  pub merge-hands : ((new_of bytes ends low lower).answer ≡ Ok tt)
       × ((pairs : List Pair) × Hands bytes ends high upper (new_of bytes ends low lower).cursor key value pairs
       × Merged (length ends) items (between low lower high upper) pairs)
   merge-hands =

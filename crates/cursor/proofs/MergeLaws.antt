@@ -1,4 +1,5 @@
 -- A pass takes the first item off all runs together, and steps on to the rest. Assumes nothing.
+use Rattle.std.specs.Prelude.{Ok, Err, Some, None}
 use mathlib.Core.Path.{◌≡◌, refl, sym, ◌∙◌, ap}
 use mathlib.Core.Bool.{cond}
 use mathlib.Core.List.{List, [], ◌∷◌}
@@ -14,20 +15,17 @@ use Rattle.types.specs.declared.refusal.Refusal.{Refusal}
 use Rattle.types.proofs.TestLaws.{eq-or-ne}
 use Rattle.run.specs.Items.{Item, item_in}
 use Rattle.run.specs.Records.{head_at, key_in, value_in}
-use Rattle.run.specs.declared.bound.Bound.{Bound}
-use Rattle.keys.specs.declared.order.Ordering.{Ordering}
-use Rattle.keys.specs.declared.order.Ordering.TheVariants.{Less, Equal, Greater}
+use Rattle.run.specs.Kinds.{Bound}
+use Rattle.std.specs.declared.cmp.Ordering.{Ordering}
+use Rattle.std.specs.declared.cmp.Ordering.TheVariants.{Less, Equal, Greater}
 use Rattle.run.specs.declared.record.Record.{Record}
-use Rattle.run.specs.declared.record.Head.TheVariants as head
 use Rattle.run.proofs.FitLaws.{head-lies}
 use Rattle.slices.proofs.PartLaws.{part-fits}
-use Rattle.cursor.specs.Pass.{against_lowest, lowest_key, shows, with_gone, with_holder, with_lowest, pass_of}
+use Rattle.cursor.specs.Pass.{against_lowest, lowest_key, shows, with_gone, with_holder, with_lowest, pass_of, Lowest}
 use Rattle.cursor.specs.Places.{gone, at_place, place_of}
 use Rattle.cursor.specs.Runs.{run_of}
 use Rattle.cursor.specs.Union.{laid, union}
 use Rattle.cursor.specs.declared.look.Look.TheVariants as look
-use Rattle.cursor.specs.declared.look.Lowest.{Lowest}
-use Rattle.cursor.specs.declared.look.Lowest.TheVariants.{None, Found, Refused}
 use Rattle.cursor.specs.declared.pass.Pass.{Pass}
 use Rattle.cursor.specs.declared.place.Place.TheVariants.{At}
 use Rattle.cursor.specs.declared.place.RunPlace.{RunPlace}
@@ -67,7 +65,7 @@ module _ (bytes ends : List ℕ) where
     pub key : length (key_in (run_of bytes ends i) r) ≤ max_key_size
     pub value : length (value_in (run_of bytes ends i) r) ≤ max_value_size
 
-  fits : (i at : ℕ) (r : Record) → head_at (run_of bytes ends i) at ≡ head.Record r → Fits i r
+  fits : (i at : ℕ) (r : Record) → head_at (run_of bytes ends i) at ≡ Ok (Some r) → Fits i r
   fits i at r h =
       let run = run_of bytes ends i in
       let l = head-lies run at r h in
@@ -103,9 +101,9 @@ module _ (bytes ends : List ℕ) (bound : Bound) (upper : List ℕ) where
       pub first : union i items ≡ item_of bytes ends j x ∷ union i rest
 
     abbrev pub Tops : ℕ → Pass → Lowest → Type 0
-    Tops i p None = union i items ≡ []
-    Tops i p (Found j x) = Top i p j x
-    Tops i p (Refused why) = ⊥
+    Tops i p (Ok None) = union i items ≡ []
+    Tops i p (Ok (Some held)) = Top i p held.run held.head
+    Tops i p (Err why) = ⊥
 
     pub record Takes (i : ℕ) (p : Pass) : Type 0 where
       pub left : Left items p.places
@@ -120,17 +118,17 @@ module _ (bytes ends : List ℕ) (bound : Bound) (upper : List ℕ) where
         union-gone f q = rw q (laid-empty (union i f))
 
         gone-top : (l : Lowest) → Tops i p l → Tops (suc i) (with_gone i p) l
-        gone-top None t = union-gone items e ∙ t
-        gone-top (Found j x) t =
+        gone-top (Ok None) t = union-gone items e ∙ t
+        gone-top (Ok (Some held)) t =
             let z : t.rest i ≡ [] = t.ahead i (le_refl i) ∙ e in
             record {
               fits = t.fits;
               rest = t.rest;
               left = left-gone t.rest p.stepped i z t.left;
               ahead = λ k b. t.ahead k (omega arith);
-              first = union-gone items e ∙ t.first ∙ ap (λ (l : List Item). item_of bytes ends j x ∷ l) (sym (union-gone t.rest z));
+              first = union-gone items e ∙ t.first ∙ ap (λ (l : List Item). item_of bytes ends held.run held.head ∷ l) (sym (union-gone t.rest z));
             }
-        gone-top (Refused why) t = t
+        gone-top (Err why) t = t
 
         takes-gone : Takes (suc i) (with_gone i p)
         takes-gone = record { left = left-gone items p.places i e h.left; top = gone-top p.lowest h.top }
@@ -146,9 +144,9 @@ module _ (bytes ends : List ℕ) (bound : Bound) (upper : List ℕ) where
         below-first : (l : Lowest) → Tops i p l → against_lowest l (lowest_key bytes ends l) (key_in (run_of bytes ends i) r) ≡ Less
             → laid (item_of bytes ends i r ∷ mine) (union i items) ≡ item_of bytes ends i r ∷ laid mine (union i items)
         unfolding against_lowest lowest_key
-        below-first None t q = rw t (laid_none (item_of bytes ends i r ∷ mine) ∙ ap (λ (l : List Item). item_of bytes ends i r ∷ l) (sym (laid_none mine)))
-        below-first (Found j x) t q = rw t.first (laid-less (item_of bytes ends i r) (item_of bytes ends j x) mine (union i t.rest) q)
-        below-first (Refused why) t q = absurd t
+        below-first (Ok None) t q = rw t (laid_none (item_of bytes ends i r ∷ mine) ∙ ap (λ (l : List Item). item_of bytes ends i r ∷ l) (sym (laid_none mine)))
+        below-first (Ok (Some held)) t q = rw t.first (laid-less (item_of bytes ends i r) (item_of bytes ends held.run held.head) mine (union i t.rest) q)
+        below-first (Err why) t q = absurd t
 
         takes-below : standing bytes ends bound upper i p r ≡ Less → Takes (suc i) (with_lowest i r p)
         takes-below q = record {
@@ -164,8 +162,8 @@ module _ (bytes ends : List ℕ) (bound : Bound) (upper : List ℕ) where
 
         level-top : (l : Lowest) → Tops i p l → against_lowest l (lowest_key bytes ends l) (key_in (run_of bytes ends i) r) ≡ Equal → Top (suc i) (with_holder i r p) i r
         unfolding against_lowest lowest_key
-        level-top None t q = let z : ◌≡◌ {A = ℕ} 0 1 = cc in absurd (omega arith)
-        level-top (Found j x) t q =
+        level-top (Ok None) t q = let z : ◌≡◌ {A = ℕ} 0 1 = cc in absurd (omega arith)
+        level-top (Ok (Some held)) t q =
             let w : t.rest i ≡ item_of bytes ends i r ∷ mine = t.ahead i (le_refl i) ∙ e in
             let a = shows-at (run_of bytes ends i) bound upper (place_of p.stepped i) (item_of bytes ends i r) mine (rw w at (t.left i few)) in
             record {
@@ -174,27 +172,27 @@ module _ (bytes ends : List ℕ) (bound : Bound) (upper : List ℕ) where
               left = left-set t.rest p.stepped i a.0 r.next mine a.1 g t.left;
               ahead = λ k b. instead-other t.rest i mine k (λ z. omega arith) ∙ t.ahead k (omega arith);
               first = union-here items e
-                  ∙ rw t.first (laid-equal (item_of bytes ends i r) (item_of bytes ends j x) mine (union i t.rest) q)
+                  ∙ rw t.first (laid-equal (item_of bytes ends i r) (item_of bytes ends held.run held.head) mine (union i t.rest) q)
                   ∙ ap (λ (l : List Item). item_of bytes ends i r ∷ l) (sym (union-instead i t.rest mine));
             }
-        level-top (Refused why) t q = absurd t
+        level-top (Err why) t q = absurd t
 
         takes_level : standing bytes ends bound upper i p r ≡ Equal → Takes (suc i) (with_holder i r p)
         takes_level q = record { left = h.left; top = level-top p.lowest h.top q }
 
         above-top : (l : Lowest) → Tops i p l → against_lowest l (lowest_key bytes ends l) (key_in (run_of bytes ends i) r) ≡ Greater → Tops (suc i) p l
         unfolding against_lowest lowest_key
-        above-top None t q = let z : ◌≡◌ {A = ℕ} 0 1 = cc in absurd (omega arith)
-        above-top (Found j x) t q = record {
+        above-top (Ok None) t q = let z : ◌≡◌ {A = ℕ} 0 1 = cc in absurd (omega arith)
+        above-top (Ok (Some held)) t q = record {
           fits = t.fits;
           rest = t.rest;
           left = t.left;
           ahead = λ k b. t.ahead k (omega arith);
           first = union-here items e
-              ∙ rw t.first (laid-greater (item_of bytes ends i r) (item_of bytes ends j x) mine (union i t.rest) q)
-              ∙ ap (λ (l : List Item). item_of bytes ends j x ∷ l) (sym (union-here t.rest (t.ahead i (le_refl i) ∙ e)));
+              ∙ rw t.first (laid-greater (item_of bytes ends i r) (item_of bytes ends held.run held.head) mine (union i t.rest) q)
+              ∙ ap (λ (l : List Item). item_of bytes ends held.run held.head ∷ l) (sym (union-here t.rest (t.ahead i (le_refl i) ∙ e)));
         }
-        above-top (Refused why) t q = absurd t
+        above-top (Err why) t q = absurd t
 
         takes-above : standing bytes ends bound upper i p r ≡ Greater → Takes (suc i) p
         takes-above q = record { left = h.left; top = above-top p.lowest h.top q }
@@ -206,7 +204,7 @@ module _ (bytes ends : List ℕ) (bound : Bound) (upper : List ℕ) where
     looked i p at r o few h s =
         shows-item (run_of bytes ends i) bound upper (place_of p.places i) (items i) (h.left i few) at s.place r s.head s.within
 
-    nothing_left : (i : ℕ) (p : Pass) → i < length ends → Takes i p → shows bytes ends bound upper i p ≡ look.Gone → items i ≡ []
+    nothing_left : (i : ℕ) (p : Pass) → i < length ends → Takes i p → shows bytes ends bound upper i p ≡ Ok look.Gone → items i ≡ []
     unfolding shows
     nothing_left i p few h q =
         shows-none (run_of bytes ends i) bound upper p.lowest (lowest_key bytes ends p.lowest) (place_of p.places i) (items i) (h.left i few) q
@@ -219,7 +217,7 @@ module _ (bytes ends : List ℕ) (bound : Bound) (upper : List ℕ) where
       below = λ i p at r few h s. let m = looked i p at r Less few h s in takes-below i p few h at r Less s m.0 m.1 m.2 s.order;
     }
 
-    refused-never : (i : ℕ) (p : Pass) (why : Refusal) → i < length ends → Takes i p → shows bytes ends bound upper i p ≡ look.Refused why → ⊥
+    refused-never : (i : ℕ) (p : Pass) (why : Refusal) → i < length ends → Takes i p → shows bytes ends bound upper i p ≡ Err why → ⊥
     unfolding shows
     refused-never i p why few h q =
         shows-fine (run_of bytes ends i) bound upper p.lowest (lowest_key bytes ends p.lowest) (place_of p.places i) (items i) (h.left i few) why q

@@ -8,12 +8,12 @@ use native.Mathlib.Omega.{arith}
 use lib.ListN.{take}
 use Rattle.run.specs.Items.{Item}
 use Rattle.keys.specs.Keys.{compare_keys}
-use Rattle.run.specs.declared.bound.Bound.{Bound}
-use Rattle.keys.specs.declared.order.Ordering.TheVariants.{Less, Equal}
+use Rattle.run.specs.Kinds.{Bound}
+use Rattle.std.specs.declared.cmp.Ordering.TheVariants.{Less, Equal}
 use Rattle.keys.proofs.OrderLaws.{compare-itself, less-less}
 use Rattle.cursor.specs.Merged.{Pair, Hands, end, entry, Among, BelowPairs, RisingPairs, Merged}
 use Rattle.cursor.specs.Next.{next_key, next_value}
-use Rattle.cursor.specs.declared.answers.NextAnswer.TheVariants.{Entry}
+use Rattle.cursor.specs.declared.answers.Entry.{Entry}
 use Rattle.cursor.specs.declared.place.Cursor.{Cursor}
 use Rattle.cursor.proofs.LiveLaws.{among_below}
 
@@ -25,9 +25,9 @@ hands-once bytes ends bound upper c key value _ _ (end p) (end q) = refl
 hands-once bytes ends bound upper c key value _ _ (end p) (entry k v q s) = let z : ◌≡◌ {A = ℕ} 0 1 = cc in absurd (omega arith)
 hands-once bytes ends bound upper c key value _ _ (entry k v p r) (end q) = let z : ◌≡◌ {A = ℕ} 0 1 = cc in absurd (omega arith)
 hands-once bytes ends bound upper c key value _ _ (entry {pairs = a} k v p r) (entry {pairs = b} m n q s) =
-    let e : Entry k v ≡ Entry m n = sym p ∙ q in
-    let ek : k ≡ m = cc in
-    let ev : v ≡ n = cc in
+    let e : ◌≡◌ {A = Entry} (record { key_len = k; value_len = v }) (record { key_len = m; value_len = n }) = cc in
+    let ek : k ≡ m = ap (λ (x : Entry). x.key_len) e in
+    let ev : v ≡ n = ap (λ (x : Entry). x.value_len) e in
     rw (ek, ev) (ap (λ (l : List Pair). record { key = take m (next_key bytes ends bound upper c key value); value = take n (next_value bytes ends bound upper c key value) } ∷ l)
     (hands-once bytes ends bound upper _ _ _ a b r s))
 

@@ -1,4 +1,8 @@
 -- On runs of rising keys a new cursor stands where each run's items within the lower bound begin. Assumes nothing.
+use Rattle.std.specs.Prelude.{Ok, Err, Some, None, ⊤}
+use Rattle.std.specs.declared.option.Option.{Option}
+use Rattle.std.specs.declared.result.Result.{Result}
+use Rattle.types.specs.declared.refusal.Refusal.{Refusal}
 use mathlib.Core.Path.{◌≡◌, refl, ◌∙◌, ap}
 use mathlib.Core.Bool.{Bool, true, false, cond, ◌&&◌}
 use mathlib.Core.List.{List, []}
@@ -10,9 +14,7 @@ use lib.Seq.{get_or-set_same}
 use Rattle.types.specs.Build.{file_count}
 use Rattle.types.proofs.TestLaws.{eq-or-ne}
 use Rattle.run.specs.Items.{Item, Reads, Rising, Said, nothing, said_in}
-use Rattle.run.specs.declared.bound.Bound.{Bound}
-use Rattle.run.specs.declared.search.Sought.{Sought}
-use Rattle.run.specs.declared.search.Sought.TheVariants as sought
+use Rattle.run.specs.Kinds.{Bound}
 use Rattle.slices.proofs.PartLaws.{part-fits}
 use Rattle.cursor.specs.Checks.{good_runs, new_check}
 use Rattle.cursor.specs.Merged.{or_else, said, between}
@@ -20,8 +22,7 @@ use Rattle.cursor.specs.New.{after_search, new_from, new_of}
 use Rattle.cursor.specs.Places.{gone, at_place, place_of, all_gone}
 use Rattle.cursor.specs.Runs.{start_of, end_of, run_of}
 use Rattle.cursor.specs.Union.{kept}
-use Rattle.types.specs.declared.answers.Outcome.TheVariants.{Done}
-use Rattle.cursor.specs.declared.answers.NewCursor.{NewCursor}
+use Rattle.cursor.specs.declared.answers.Moved.{Moved}
 use Rattle.cursor.specs.declared.place.Place.TheVariants.{At, Gone}
 use Rattle.cursor.specs.declared.place.RunPlace.{RunPlace}
 use Rattle.cursor.proofs.BoundLaws.{within, reaches, asked-between}
@@ -90,8 +91,8 @@ module _ (low : Bound) (lower : List ℕ) (high : Bound) (upper : List ℕ) wher
       todo : (k : ℕ) → i ≤ k → place_of places k ≡ Gone
       good : Good ends places
 
-    abbrev Made : NewCursor → Type 0
-    Made n = (n.answer ≡ Done) × Opened (length ends) n.cursor.places
+    abbrev Made : Moved ⊤ → Type 0
+    Made n = (n.answer ≡ Ok tt) × Opened (length ends) n.cursor.places
 
     module _ (i : ℕ) (places : List RunPlace) (b : i < length ends) (h : Opened i places) where
       none_left : kept (reaches low lower) (items i) ≡ [] → taken (items i) ≡ []
@@ -119,12 +120,12 @@ module _ (low : Bound) (lower : List ℕ) (high : Bound) (upper : List ℕ) wher
             good = good-set ends places i at b (omega (arith, part-fits bytes (start_of ends i) (end_of ends i))) h.good;
           }
 
-      opened-by : (later : List RunPlace → NewCursor) → ((q : List RunPlace) → Opened (suc i) q → Made (later q))
-          → (s : Sought) → Starts (run_of bytes ends i) (kept (reaches low lower) (items i)) s → Made (after_search s i places later)
+      opened-by : (later : List RunPlace → (Moved ⊤)) → ((q : List RunPlace) → Opened (suc i) q → Made (later q))
+          → (s : Result (Option ℕ) Refusal) → Starts (run_of bytes ends i) (kept (reaches low lower) (items i)) s → Made (after_search s i places later)
       unfolding after_search
-      opened-by later on sought.Gone st = on places (opened-gone st)
-      opened-by later on (sought.At at) st = on (set places i (at_place at)) (opened-at at st.0 st.1)
-      opened-by later on (sought.Refused why) st = absurd st
+      opened-by later on (Ok None) st = on places (opened-gone st)
+      opened-by later on (Ok (Some at)) st = on (set places i (at_place at)) (opened-at at st.0 st.1)
+      opened-by later on (Err why) st = absurd st
 
     opened-from : (count i : ℕ) → i + count ≡ length ends → (places : List RunPlace) → Opened i places → Made (new_from bytes ends low lower count i places)
     unfolding new_from
@@ -146,6 +147,6 @@ module _ (low : Bound) (lower : List ℕ) (high : Bound) (upper : List ℕ) wher
     made g = rw g (opened-from (length ends) 0 (omega arith) all_gone unopened)
 
     pub opened : good_runs (length bytes) ends ≡ true
-        → ((new_of bytes ends low lower).answer ≡ Done) × Good ends (new_of bytes ends low lower).cursor.places
+        → ((new_of bytes ends low lower).answer ≡ Ok tt) × Good ends (new_of bytes ends low lower).cursor.places
         × Left bytes ends high upper (λ i. taken (items i)) (new_of bytes ends low lower).cursor.places
     opened g = let m = made g in (m.0, m.1.good, m.1.done)

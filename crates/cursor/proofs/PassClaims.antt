@@ -2,6 +2,7 @@
 -- one that decides holds it; every holder steps on to its next record; and no other run moves. A run is gone after it that was
 -- gone, has nothing at its place or a key past the upper bound there, and no other. A pass that finds none leaves every run gone.
 -- Assumes nothing.
+use Rattle.std.specs.Prelude.{Ok, Some, None}
 use mathlib.Core.Path.{◌≡◌, refl, sym, subst, ◌∙◌}
 use mathlib.Core.List.{List}
 use mathlib.Core.Logic.{◌⊎◌, ⊎_elim}
@@ -9,15 +10,13 @@ use Prim.Native.Nat.{ℕ, ◌≤◌, ◌<◌}
 use native.Mathlib.Omega.{arith}
 use lib.ListN.{length}
 use Rattle.keys.specs.Keys.{compare_keys}
-use Rattle.run.specs.declared.bound.Bound.{Bound}
-use Rattle.keys.specs.declared.order.Ordering.{Ordering}
-use Rattle.keys.specs.declared.order.Ordering.TheVariants.{Less, Equal, Greater}
+use Rattle.run.specs.Kinds.{Bound}
+use Rattle.std.specs.declared.cmp.Ordering.{Ordering}
+use Rattle.std.specs.declared.cmp.Ordering.TheVariants.{Less, Equal, Greater}
 use Rattle.run.specs.declared.record.Record.{Record}
 use Rattle.keys.proofs.OrderLaws.{compare-itself, compare-equal}
-use Rattle.cursor.specs.Pass.{pass_of}
+use Rattle.cursor.specs.Pass.{pass_of, Lowest}
 use Rattle.cursor.specs.Places.{place_of}
-use Rattle.cursor.specs.declared.look.Lowest.{Lowest}
-use Rattle.cursor.specs.declared.look.Lowest.TheVariants.{None, Found}
 use Rattle.cursor.specs.declared.pass.Pass.{Pass}
 use Rattle.cursor.specs.declared.place.Place.TheVariants.{At, Gone}
 use Rattle.cursor.specs.declared.place.RunPlace.{RunPlace}
@@ -61,7 +60,7 @@ module _ (bytes ends : List ℕ) (bound : Bound) (upper : List ℕ) where
   same : (a b : List ℕ) → a ≡ b → compare_keys a b ≡ Equal
   same a b e = rw e (compare-itself b)
 
-  finds : (start : List RunPlace) (p : Pass) (j : ℕ) (x : Record) → Least bytes ends bound upper start (length ends) p → p.lowest ≡ Found j x
+  finds : (start : List RunPlace) (p : Pass) (j : ℕ) (x : Record) → Least bytes ends bound upper start (length ends) p → p.lowest ≡ Ok (Some (record { run = j; head = x }))
       → Finds start p j x
   finds start p j x l e =
       let d : Decides bytes ends bound upper (length ends) p j x
@@ -79,22 +78,22 @@ module _ (bytes ends : List ℕ) (bound : Bound) (upper : List ℕ) where
       }
 
   after-finds : (start : List RunPlace) (p : Pass) (j : ℕ) (x : Record) → After bytes ends bound upper (Least bytes ends bound upper start) p
-      → p.lowest ≡ Found j x → Finds start p j x
+      → p.lowest ≡ Ok (Some (record { run = j; head = x })) → Finds start p j x
   after-finds start p j x (whole l) e = finds start p j x l e
   after-finds start _ j x (cut i q why m l s) e = let z : ◌≡◌ {A = ℕ} 0 1 = cc in absurd (omega arith)
 
-  pub pass-finds : (start : List RunPlace) (j : ℕ) (x : Record) → (pass_of bytes ends bound upper start).lowest ≡ Found j x
+  pub pass-finds : (start : List RunPlace) (j : ℕ) (x : Record) → (pass_of bytes ends bound upper start).lowest ≡ Ok (Some (record { run = j; head = x }))
       → Finds start (pass_of bytes ends bound upper start) j x
   pass-finds start j x e = after-finds start _ j x (least bytes ends bound upper start) e
 
   -- where a pass finds no lowest key, every run is gone, and each was to be
-  none_found : (start : List RunPlace) (p : Pass) → After bytes ends bound upper (Least bytes ends bound upper start) p → p.lowest ≡ None
+  none_found : (start : List RunPlace) (p : Pass) → After bytes ends bound upper (Least bytes ends bound upper start) p → p.lowest ≡ Ok None
       → (i : ℕ) → i < length ends → Ended bytes ends bound upper start i × (place_of p.places i ≡ Gone)
   none_found start p (whole l) e i b =
       let g : place_of p.places i ≡ Gone = subst (λ (y : Lowest). Stands bytes ends bound upper (length ends) p y) e l.stands i b in
       (⊎_elim (λ f. was-gone (sym f ∙ g)) (λ f. f.0) (l.found i), g)
   none_found start _ (cut i q why m l s) e k b = let z : ◌≡◌ {A = ℕ} 0 1 = cc in absurd (omega arith)
 
-  pub pass-ends : (start : List RunPlace) → (pass_of bytes ends bound upper start).lowest ≡ None
+  pub pass-ends : (start : List RunPlace) → (pass_of bytes ends bound upper start).lowest ≡ Ok None
       → (i : ℕ) → i < length ends → Ended bytes ends bound upper start i × (place_of (pass_of bytes ends bound upper start).places i ≡ Gone)
   pass-ends start e = none_found start _ (least bytes ends bound upper start) e

@@ -1,8 +1,7 @@
 -- Where a run starts. Assumes nothing.
 use mathlib.Core.Path.{◌≡◌, refl}
 use mathlib.Core.List.{List}
-use Prim.Native.Nat.{ℕ, zero, suc, ◌+◌, ◌-◌}
-use native.Mathlib.Numerals.{add-one}
+use Prim.Native.Nat.{ℕ, zero, suc, ◌-◌}
 use native.Mathlib.Omega.{arith}
 use Rattle.cursor.specs.Runs.{start_of, end_of}
 
@@ -14,7 +13,3 @@ pub start-later : (ends : List ℕ) (i : ℕ) → (i ≡ 0 → ⊥) → end_of e
 unfolding start_of
 start-later ends zero n = absurd (n refl)
 start-later ends (suc i) n = let z : suc i - 1 ≡ i = omega arith in rw z
-
-pub start-next : (ends : List ℕ) (i : ℕ) → end_of ends i ≡ start_of ends (i + 1)
-unfolding start_of
-start-next ends i = rw (add-one i)

@@ -6,7 +6,7 @@ use Prim.Native.Nat.{ℕ, zero, suc, ◌≤◌, ◌<◌}
 use native.Mathlib.Omega.{arith}
 use lib.ListN.{length}
 use Rattle.types.specs.Build.{file_count}
-use Rattle.run.specs.declared.bound.Bound.{Bound}
+use Rattle.run.specs.Kinds.{Bound}
 use Rattle.cursor.specs.Pass.{pass_of}
 use Rattle.cursor.specs.Settle.{is_hidden, bytes_ahead, settle_from}
 use Rattle.cursor.specs.declared.pass.Pass.{Pass}

@@ -1,5 +1,8 @@
 -- What a run shows from a place on under an upper bound, as items; on rising keys, those of its items that the bounds
 -- take. Assumes nothing.
+use Rattle.std.specs.Prelude.{Ok, Err, Some, None}
+use Rattle.std.specs.declared.option.Option.{Option}
+use Rattle.std.specs.declared.result.Result.{Result}
 use mathlib.Core.Path.{◌≡◌, refl, sym, ◌∙◌}
 use mathlib.Core.Bool.{Bool, true, false, cond, not}
 use mathlib.Core.List.{List, [], ◌∷◌}
@@ -12,21 +15,16 @@ use Rattle.run.specs.Items.{Item, item_in, Reads, end, more, Below, Rising}
 use Rattle.keys.specs.Keys.{compare_keys}
 use Rattle.run.specs.Records.{head_at, key_in}
 use Rattle.run.specs.Search.{sought_by, sought_from, search_in}
-use Rattle.run.specs.declared.bound.Bound.{Bound}
-use Rattle.run.specs.declared.bound.Bound.TheVariants.{Unbounded, Included, Excluded}
-use Rattle.keys.specs.declared.order.Ordering.{Ordering}
-use Rattle.keys.specs.declared.order.Ordering.TheVariants.{Less, Equal, Greater}
+use Rattle.run.specs.Kinds.{Bound, Unbounded, Included, Excluded}
+use Rattle.std.specs.declared.cmp.Ordering.{Ordering}
+use Rattle.std.specs.declared.cmp.Ordering.TheVariants.{Less, Equal, Greater}
 use Rattle.run.specs.declared.record.Record.{Record}
-use Rattle.run.specs.declared.record.Head.TheVariants as head
-use Rattle.run.specs.declared.search.Sought.{Sought}
-use Rattle.run.specs.declared.search.Sought.TheVariants as sought
 use Rattle.run.proofs.FitLaws.{head-lies}
 use Rattle.run.proofs.ItemLaws.{rising-first, rising-rest}
 use Rattle.run.proofs.SearchLaws.{search_in-unbounded, search_in-included, search_in-excluded, sought_from-end, sought_from-record, sought_by-less, sought_by-equal, sought_by-greater}
-use Rattle.cursor.specs.Pass.{look_by, look_head, look_at}
+use Rattle.cursor.specs.Pass.{look_by, look_head, look_at, Lowest}
 use Rattle.cursor.specs.Union.{kept}
 use Rattle.cursor.specs.declared.look.Look.TheVariants as look
-use Rattle.cursor.specs.declared.look.Lowest.{Lowest}
 use Rattle.cursor.specs.declared.place.Place.{Place}
 use Rattle.cursor.specs.declared.place.Place.TheVariants.{At, Gone}
 use Rattle.cursor.proofs.BoundLaws.{within, kept-past, reaches_by, reaches, kept-unbounded, kept-reached}
@@ -35,24 +33,24 @@ use Rattle.cursor.proofs.PlaceLaws.{at-gone}
 module _ (run : List ℕ) (bound : Bound) (upper : List ℕ) where
   pub data Shows : Place → List Item → Type 0 where
     none : Shows Gone []
-    ended : {at : ℕ} → head_at run at ≡ head.Nothing → Shows (At at) []
-    past : {at : ℕ} (r : Record) → head_at run at ≡ head.Record r → is_past bound upper (key_in run r) ≡ true → Shows (At at) []
-    item : {at : ℕ} {items : List Item} (r : Record) → head_at run at ≡ head.Record r → is_past bound upper (key_in run r) ≡ false
+    ended : {at : ℕ} → head_at run at ≡ Ok None → Shows (At at) []
+    past : {at : ℕ} (r : Record) → head_at run at ≡ Ok (Some r) → is_past bound upper (key_in run r) ≡ true → Shows (At at) []
+    item : {at : ℕ} {items : List Item} (r : Record) → head_at run at ≡ Ok (Some r) → is_past bound upper (key_in run r) ≡ false
         → Shows (At r.next) items → Shows (At at) (item_in run r ∷ items)
 
   -- ---- what a look sees of it
 
-  one-head : (at : ℕ) (r r' : Record) → head_at run at ≡ head.Record r → head_at run at ≡ head.Record r' → r ≡ r'
-  one-head at r r' p q = let e : head.Record r ≡ head.Record r' = sym p ∙ q in cc
+  one-head : (at : ℕ) (r r' : Record) → head_at run at ≡ Ok (Some r) → head_at run at ≡ Ok (Some r') → r ≡ r'
+  one-head at r r' p q = let e : Ok (Some r) ≡ Ok (Some r') = sym p ∙ q in cc
 
   -- at a record within the bound the first item is that record
   pub shows-item : (place : Place) (items : List Item) → Shows place items → (at : ℕ) → place ≡ At at → (r : Record)
-      → head_at run at ≡ head.Record r → is_past bound upper (key_in run r) ≡ false
+      → head_at run at ≡ Ok (Some r) → is_past bound upper (key_in run r) ≡ false
       → (rest : List Item) × (items ≡ item_in run r ∷ rest) × Shows (At r.next) rest
   shows-item _ _ none at p r h w = at-gone Gone at p refl
   shows-item _ _ (ended {at = from} g) at p r h w =
       let e : from ≡ at = cc in
-      let z : head.Nothing ≡ head.Record r = sym g ∙ rw e h in
+      let z : (Ok None) ≡ Ok (Some r) = sym g ∙ rw e h in
       let y : ◌≡◌ {A = ℕ} 0 1 = cc in
       absurd (omega arith)
   shows-item _ _ (past {at = from} x g t) at p r h w =
@@ -71,20 +69,20 @@ module _ (run : List ℕ) (bound : Bound) (upper : List ℕ) where
   shows-at _ x items (item {at = at} r g t s) = (at, refl)
 
   module _ (lowest : Lowest) (low : List ℕ) where
-    not-gone : (o : Ordering) (r : Record) → look_by o r ≡ look.Gone → ⊥
+    not-gone : (o : Ordering) (r : Record) → look_by o r ≡ Ok look.Gone → ⊥
     unfolding look_by
     not-gone Less r e = let z : ◌≡◌ {A = ℕ} 0 1 = cc in omega arith
     not-gone Equal r e = let z : ◌≡◌ {A = ℕ} 0 1 = cc in omega arith
     not-gone Greater r e = let z : ◌≡◌ {A = ℕ} 0 1 = cc in omega arith
 
-    not-refused : (o : Ordering) (r : Record) (why : Refusal) → look_by o r ≡ look.Refused why → ⊥
+    not-refused : (o : Ordering) (r : Record) (why : Refusal) → look_by o r ≡ Err why → ⊥
     unfolding look_by
     not-refused Less r why e = let z : ◌≡◌ {A = ℕ} 0 1 = cc in omega arith
     not-refused Equal r why e = let z : ◌≡◌ {A = ℕ} 0 1 = cc in omega arith
     not-refused Greater r why e = let z : ◌≡◌ {A = ℕ} 0 1 = cc in omega arith
 
     -- a run without a head shows no items
-    pub shows-none : (place : Place) (items : List Item) → Shows place items → look_at run place bound upper lowest low ≡ look.Gone → items ≡ []
+    pub shows-none : (place : Place) (items : List Item) → Shows place items → look_at run place bound upper lowest low ≡ Ok look.Gone → items ≡ []
     unfolding look_at look_head
     shows-none _ _ none e = refl
     shows-none _ _ (ended g) e = refl
@@ -92,11 +90,11 @@ module _ (run : List ℕ) (bound : Bound) (upper : List ℕ) where
     shows-none _ _ (item x g t s) e = absurd (not-gone _ x (rw (g, t) at e))
 
     -- a run that shows items is not refused
-    pub shows-fine : (place : Place) (items : List Item) → Shows place items → (why : Refusal) → look_at run place bound upper lowest low ≡ look.Refused why → ⊥
+    pub shows-fine : (place : Place) (items : List Item) → Shows place items → (why : Refusal) → look_at run place bound upper lowest low ≡ Err why → ⊥
     unfolding look_at look_head
     shows-fine _ _ none why e = let z : ◌≡◌ {A = ℕ} 0 1 = cc in omega arith
-    shows-fine _ _ (ended g) why e = let w : look.Gone ≡ look.Refused why = rw g at e in let z : ◌≡◌ {A = ℕ} 0 1 = cc in omega arith
-    shows-fine _ _ (past x g t) why e = let w : look.Gone ≡ look.Refused why = rw (g, t) at e in let z : ◌≡◌ {A = ℕ} 0 1 = cc in omega arith
+    shows-fine _ _ (ended g) why e = let w : (Ok look.Gone) ≡ Err why = rw g at e in let z : ◌≡◌ {A = ℕ} 0 1 = cc in omega arith
+    shows-fine _ _ (past x g t) why e = let w : (Ok look.Gone) ≡ Err why = rw (g, t) at e in let z : ◌≡◌ {A = ℕ} 0 1 = cc in omega arith
     shows-fine _ _ (item x g t s) why e = not-refused _ x why (rw (g, t) at e)
 
   -- ---- from the run's items
@@ -115,15 +113,15 @@ module _ (run : List ℕ) (bound : Bound) (upper : List ℕ) where
 -- ---- the search for a lower bound
 
 -- where a run starts: at a position from which it reads these items, or gone with none left
-abbrev pub Starts : List ℕ → List Item → Sought → Type 0
-Starts run items sought.Gone = items ≡ []
-Starts run items (sought.At at) = (at ≤ length run) × Reads run at items
-Starts run items (sought.Refused why) = ⊥
+abbrev pub Starts : List ℕ → List Item → Result (Option ℕ) Refusal → Type 0
+Starts run items (Ok None) = items ≡ []
+Starts run items (Ok (Some at)) = (at ≤ length run) × Reads run at items
+Starts run items (Err why) = ⊥
 
 module _ (run : List ℕ) (lower : List ℕ) where
   -- a record whose key stands so to the bound
-  module _ (at : ℕ) (r : Record) (items : List Item) (g : head_at run at ≡ head.Record r) (s : Reads run r.next items)
-      (b : Below (key_in run r) items) (later : ℕ → Sought) where
+  module _ (at : ℕ) (r : Record) (items : List Item) (g : head_at run at ≡ Ok (Some r)) (s : Reads run r.next items)
+      (b : Below (key_in run r) items) (later : ℕ → (Result (Option ℕ) Refusal)) where
     -- the record itself is the first item taken
     taken_here : (bound : Bound) → (compare_keys (key_in run r) lower ≡ Less → ⊥)
         → (at ≤ length run) × Reads run at (item_in run r ∷ kept (reaches bound lower) items)

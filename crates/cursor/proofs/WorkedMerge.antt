@@ -1,5 +1,6 @@
 -- The claims on a merge, on two small runs that meet their premises: a new cursor is made, next comes to its end, and what it hands out
 -- is the merge. The calls themselves are computed. Assumes nothing.
+use Rattle.std.specs.Prelude.{Ok}
 use mathlib.Core.Path.{◌≡◌, refl}
 use mathlib.Core.Bool.{true, false}
 use mathlib.Core.List.{List, [], flatten}
@@ -9,10 +10,9 @@ use native.Mathlib.Omega.{arith}
 use lib.ListN.{length}
 use Rattle.types.specs.Build.{max_key_size, max_value_size}
 use Rattle.types.specs.Bytes.{word}
-use Rattle.types.specs.declared.answers.Outcome.TheVariants.{Done}
 use Rattle.run.specs.Bounds.{past_by}
 use Rattle.run.specs.Items.{Reads, Below, Rising}
-use Rattle.run.specs.declared.bound.Bound.TheVariants.{Unbounded}
+use Rattle.run.specs.Kinds.{Unbounded}
 use Rattle.keys.specs.Keys.{compare_keys}
 use Rattle.slices.specs.Parts.{part_to}
 use Rattle.slices.specs.Patch.{over}
@@ -69,7 +69,7 @@ rooms = (le_refl max_key_size, le_refl max_value_size)
 
 -- ---- the claims on them
 
-pub worked-hands : ((new_of worked_bytes worked_ends Unbounded []).answer ≡ Done)
+pub worked-hands : ((new_of worked_bytes worked_ends Unbounded []).answer ≡ Ok tt)
     × ((pairs : List Pair) × Hands worked_bytes worked_ends Unbounded [] (new_of worked_bytes worked_ends Unbounded []).cursor key_buffer value_buffer pairs
     × Merged (length worked_ends) worked_items (between Unbounded [] Unbounded []) pairs)
 worked-hands = merge-hands worked_bytes worked_ends good worked_items reads rising Unbounded [] Unbounded [] key_buffer value_buffer rooms.0 rooms.1

@@ -1,16 +1,13 @@
 -- Bounds on a key that a run holds, the room of the buffers, and an entry before a refusal, as tables (docs/RULES.md, Merge). What
 -- a case gives is computed from the definitions. Assumes nothing.
-use Rattle.std.specs.Prelude.{List, [], ◌∷◌, ◌++◌, ℕ, zero, suc, length, take, replicate}
+use Rattle.std.specs.Prelude.{List, [], ◌∷◌, ◌++◌, ℕ, zero, suc, length, take, replicate, Ok, Err, Some, None}
 use Rattle.run.specs.RecordTable.{live_a}
-use Rattle.run.specs.declared.bound.Bound.{Bound}
-use Rattle.run.specs.declared.bound.Bound.TheVariants.{Unbounded, Included, Excluded}
+use Rattle.run.specs.Kinds.{Bound, Unbounded, Included, Excluded}
 use Rattle.types.specs.Answers.{answered}
-use Rattle.cursor.specs.Answers.{next_told}
+use Rattle.cursor.specs.Answers.{next_told, NextAnswer}
 use Rattle.cursor.specs.New.{new_of}
 use Rattle.cursor.specs.Next.{next_of, next_key}
 use Rattle.cursor.specs.ReferenceCases.{live_b, live_c, Case, call}
-use Rattle.cursor.specs.declared.answers.NextAnswer.{NextAnswer}
-use Rattle.cursor.specs.declared.answers.NextAnswer.TheVariants.{End, Entry, Refused}
 use Rattle.cursor.specs.declared.place.Cursor.{Cursor}
 use Rattle.cursor.specs.declared.place.Place.TheVariants.{At}
 
@@ -43,9 +40,9 @@ bound_cases =
 
 -- an entry's key, and then the later keys
 unfoldable pub keys_by : NextAnswer → List ℕ → List (List ℕ) → List (List ℕ)
-keys_by End buffer later = []
-keys_by (Entry k v) buffer later = take k buffer ∷ later
-keys_by (Refused why) buffer later = []
+keys_by (Ok None) buffer later = []
+keys_by (Ok (Some entry)) buffer later = take entry.key_len buffer ∷ later
+keys_by (Err why) buffer later = []
 
 -- the keys that a number of calls of next hand out at most
 unfoldable pub keys_from : ℕ → List ℕ → List ℕ → Bound → List ℕ → Cursor → List (List ℕ)

@@ -1,13 +1,11 @@
 -- The checks before the work (docs/RULES.md, Order of checks, Ranges): 10 for the run ends, then 11 for the places.
 -- Assumes nothing.
-use Rattle.std.specs.Prelude.{Bool, true, ◌&&◌, List, [], ◌∷◌, ℕ, zero, suc, ◌-◌, ltb, leb, length}
+use Rattle.std.specs.Prelude.{Bool, true, ◌&&◌, List, [], ◌∷◌, ℕ, zero, suc, ◌-◌, ltb, leb, length, Ok}
 use Rattle.types.specs.Build.{file_count}
-use Rattle.types.specs.Checks.{asking}
+use Rattle.types.specs.Checks.{asking, Verdict}
 use Rattle.types.specs.declared.refusal.Refusal.TheVariants.{BadRuns, BadState}
 use Rattle.cursor.specs.Places.{place_of}
 use Rattle.cursor.specs.Runs.{start_of, end_of}
-use Rattle.types.specs.declared.refusal.Verdict.{Verdict}
-use Rattle.types.specs.declared.refusal.Verdict.TheVariants.{Fine}
 use Rattle.cursor.specs.declared.place.Place.{Place}
 use Rattle.cursor.specs.declared.place.Place.TheVariants.{At, Gone}
 use Rattle.cursor.specs.declared.place.RunPlace.{RunPlace}
@@ -36,8 +34,8 @@ good_places ends places = good_from ends places file_count 0
 
 -- what is refused before a cursor is made
 unfoldable pub new_check : ℕ → List ℕ → Verdict
-new_check size ends = asking (good_runs size ends) BadRuns Fine
+new_check size ends = asking (good_runs size ends) BadRuns (Ok tt)
 
 -- what is refused before an entry is looked for
 unfoldable pub next_check : ℕ → List ℕ → List RunPlace → Verdict
-next_check size ends places = asking (good_runs size ends) BadRuns (asking (good_places ends places) BadState Fine)
+next_check size ends places = asking (good_runs size ends) BadRuns (asking (good_places ends places) BadState (Ok tt))

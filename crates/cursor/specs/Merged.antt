@@ -1,13 +1,11 @@
 -- What a merge is for, said without passes and places: calls of next hand out the live keys of all runs together, the
 -- newest run deciding each key, in rising order, each once. Assumes nothing.
-use Rattle.std.specs.Prelude.{◌≡◌, Bool, true, ◌&&◌, not, List, [], ◌∷◌, ◌⊎◌, ℕ, zero, suc, length, take}
+use Rattle.std.specs.Prelude.{◌≡◌, Bool, true, ◌&&◌, not, List, [], ◌∷◌, ◌⊎◌, ℕ, zero, suc, length, take, Ok, Some, None}
 use Rattle.run.specs.Items.{Item, Said, nothing, deleted, live, said_in}
 use Rattle.keys.specs.Keys.{compare_keys, is_below}
-use Rattle.run.specs.declared.bound.Bound.{Bound}
-use Rattle.run.specs.declared.bound.Bound.TheVariants.{Unbounded, Included, Excluded}
-use Rattle.keys.specs.declared.order.Ordering.TheVariants.{Less}
+use Rattle.run.specs.Kinds.{Bound, Unbounded, Included, Excluded}
+use Rattle.std.specs.declared.cmp.Ordering.TheVariants.{Less}
 use Rattle.cursor.specs.Next.{next_of, next_key, next_value}
-use Rattle.cursor.specs.declared.answers.NextAnswer.TheVariants.{End, Entry}
 use Rattle.cursor.specs.declared.place.Cursor.{Cursor}
 
 -- ---- the runs together
@@ -48,10 +46,10 @@ pub record Pair : Type 0 where
 
 -- calls of next, each from where the one before left the cursor and the buffers, hand out these pairs, and then the end
 pub data Hands (bytes ends : List ℕ) (bound : Bound) (upper : List ℕ) : Cursor → List ℕ → List ℕ → List Pair → Type 0 where
-  end : {c : Cursor} {key value : List ℕ} → (next_of bytes ends bound upper c (length key) (length value)).answer ≡ End
+  end : {c : Cursor} {key value : List ℕ} → (next_of bytes ends bound upper c (length key) (length value)).answer ≡ Ok None
       → Hands bytes ends bound upper c key value []
   entry : {c : Cursor} {key value : List ℕ} {pairs : List Pair} (k v : ℕ)
-      → (next_of bytes ends bound upper c (length key) (length value)).answer ≡ Entry k v
+      → (next_of bytes ends bound upper c (length key) (length value)).answer ≡ Ok (Some (record { key_len = k; value_len = v }))
       → Hands bytes ends bound upper (next_of bytes ends bound upper c (length key) (length value)).cursor
       (next_key bytes ends bound upper c key value) (next_value bytes ends bound upper c key value) pairs
       → Hands bytes ends bound upper c key value

@@ -1,16 +1,14 @@
 -- The reference cases on runs (docs/RULES.md, Reference cases), as data: each case has its runs, the room of each call's buffers,
 -- and what each call is to give. What it does give is computed from the definitions. Assumes nothing.
 use mathlib.Core.List.{List, [], ◌∷◌, ◌++◌, flatten}
-use Rattle.std.specs.Prelude.{ℕ, ◌+◌, length, take, replicate}
+use Rattle.std.specs.Prelude.{ℕ, ◌+◌, length, take, replicate, Ok, Err, Some, None}
 use Rattle.run.specs.RecordTable.{live_a, deleted_a}
-use Rattle.run.specs.declared.bound.Bound.TheVariants.{Unbounded}
+use Rattle.run.specs.Kinds.{Unbounded}
 use Rattle.types.specs.Histories.{told_by_each}
 use Rattle.types.specs.Answers.{Told, answered}
-use Rattle.cursor.specs.Answers.{next_told}
+use Rattle.cursor.specs.Answers.{next_told, NextAnswer}
 use Rattle.cursor.specs.New.{new_of}
 use Rattle.cursor.specs.Next.{next_of, next_key, next_value}
-use Rattle.cursor.specs.declared.answers.NextAnswer.{NextAnswer}
-use Rattle.cursor.specs.declared.answers.NextAnswer.TheVariants.{End, Entry, Refused}
 use Rattle.cursor.specs.declared.place.Cursor.{Cursor}
 use Rattle.cursor.specs.declared.place.Place.{Place}
 use Rattle.cursor.specs.declared.place.Place.TheVariants.{At, Gone}
@@ -53,14 +51,14 @@ pub record Case : Type 0 where
 
 -- an entry's bytes stand at the buffer's start
 unfoldable pub shown_key : NextAnswer → List ℕ → List ℕ
-shown_key End buffer = []
-shown_key (Entry k v) buffer = take k buffer
-shown_key (Refused why) buffer = []
+shown_key (Ok None) buffer = []
+shown_key (Ok (Some entry)) buffer = take entry.key_len buffer
+shown_key (Err why) buffer = []
 
 unfoldable pub shown_value : NextAnswer → List ℕ → List ℕ
-shown_value End buffer = []
-shown_value (Entry k v) buffer = take v buffer
-shown_value (Refused why) buffer = []
+shown_value (Ok None) buffer = []
+shown_value (Ok (Some entry)) buffer = take entry.value_len buffer
+shown_value (Err why) buffer = []
 
 unfoldable pub places_in : List RunPlace → List Place
 places_in [] = []

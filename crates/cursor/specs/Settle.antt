@@ -1,12 +1,10 @@
 -- Passes until the lowest key is not deleted (docs/RULES.md, Merge). Assumes nothing.
-use Rattle.std.specs.Prelude.{Bool, false, cond, List, ℕ, zero, suc, ◌+◌, ◌-◌}
+use Rattle.std.specs.Prelude.{Bool, false, cond, List, ℕ, zero, suc, ◌+◌, ◌-◌, Ok, Err, Some, None}
 use Rattle.types.specs.Build.{file_count}
-use Rattle.run.specs.declared.bound.Bound.{Bound}
-use Rattle.cursor.specs.Pass.{pass_of}
+use Rattle.run.specs.Kinds.{Bound}
+use Rattle.cursor.specs.Pass.{pass_of, Lowest}
 use Rattle.cursor.specs.Places.{place_of}
 use Rattle.cursor.specs.Runs.{start_of, end_of}
-use Rattle.cursor.specs.declared.look.Lowest.{Lowest}
-use Rattle.cursor.specs.declared.look.Lowest.TheVariants.{None, Found, Refused}
 use Rattle.cursor.specs.declared.pass.Pass.{Pass}
 use Rattle.cursor.specs.declared.place.Place.{Place}
 use Rattle.cursor.specs.declared.place.Place.TheVariants.{At, Gone}
@@ -14,9 +12,9 @@ use Rattle.cursor.specs.declared.place.RunPlace.{RunPlace}
 
 -- whether the lowest key is a deletion
 unfoldable pub is_hidden : Lowest → Bool
-is_hidden None = false
-is_hidden (Found run r) = r.deleted
-is_hidden (Refused why) = false
+is_hidden (Ok None) = false
+is_hidden (Ok (Some held)) = held.head.deleted
+is_hidden (Err why) = false
 
 -- the bytes that a run of `size` bytes has left
 unfoldable pub left_at : ℕ → Place → ℕ

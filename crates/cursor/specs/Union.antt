@@ -3,8 +3,8 @@
 use Rattle.std.specs.Prelude.{Bool, cond, List, [], ◌∷◌, ℕ, zero, suc}
 use Rattle.run.specs.Items.{Item}
 use Rattle.keys.specs.Keys.{compare_keys}
-use Rattle.keys.specs.declared.order.Ordering.{Ordering}
-use Rattle.keys.specs.declared.order.Ordering.TheVariants.{Less, Equal, Greater}
+use Rattle.std.specs.declared.cmp.Ordering.{Ordering}
+use Rattle.std.specs.declared.cmp.Ordering.TheVariants.{Less, Equal, Greater}
 use Rattle.cursor.specs.Merged.{Pair}
 
 abbrev pub by_order : Ordering → List Item → List Item → List Item → List Item

@@ -4,8 +4,8 @@ ghost use Rattle.run.specs.Records.{key_in, value_in};
 ghost use Rattle.cursor.specs.Next.{fitted, entry_answer, put_by};
 ghost use Rattle.cursor.specs.Pass.{lowest_key, lowest_value};
 
-use crate::answers::NextAnswer;
-use crate::look::Lowest;
+use crate::answers::{Entry, NextAnswer};
+use crate::look::{Holder, Lowest};
 use crate::runs::run_of;
 use run::record::Record;
 use slices::part::put;
@@ -22,17 +22,18 @@ fn hand_out(run: &[u8], it: Record, key: &mut [u8], value: &mut [u8]) -> NextAns
     let key_len = k.len();
     let value_len = v.len();
     if key.len() < key_len {
-        return NextAnswer::Refused(Refusal::KeyBufferTooSmall);
+        return Err(Refusal::KeyBufferTooSmall);
     }
     if value.len() < value_len {
-        return NextAnswer::Refused(Refusal::ValueBufferTooSmall);
+        return Err(Refusal::ValueBufferTooSmall);
     }
     put(key, k);
     put(value, v);
-    NextAnswer::Entry { key_len, value_len }
+    Ok(Some(Entry { key_len, value_len }))
 }
 
 // The answer, with an entry's key and value in the lent buffers.
+#[tactic(auto, unfolding(crate::specs::Next::answer_by, crate::specs::Next::put_by, crate::specs::Pass::lowest_key, crate::specs::Pass::lowest_value))]
 pub(crate) fn deliver(
     lowest: Lowest,
     runs: &[u8],
@@ -44,9 +45,8 @@ pub(crate) fn deliver(
     ensures bytes { (key.new ≡ put_by result (lowest_key runs.now ends.now lowest) key.old)
         × (value.new ≡ put_by result (lowest_value runs.now ends.now lowest) value.old) }
 {
-    match lowest {
-        Lowest::None => NextAnswer::End,
-        Lowest::Found(i, it) => hand_out(run_of(runs, ends, i), it, key, value),
-        Lowest::Refused(why) => NextAnswer::Refused(why),
-    }
+    let Some(Holder { run, head }) = lowest? else {
+        return Ok(None);
+    };
+    hand_out(run_of(runs, ends, run), head, key, value)
 }

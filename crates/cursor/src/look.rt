@@ -1,20 +1,26 @@
 // What one run's head is to a pass (docs/RULES.md, Merge).
 ghost use Rattle.std.specs.Prelude.{◌≡◌};
-ghost use Rattle.cursor.specs.Pass.{against_lowest, look_without, look_at};
+ghost use Rattle.std.specs.Range.Bound.{bound_map};
+ghost use Rattle.run.specs.Kinds.{kind_of, key_of};
+ghost use Rattle.cursor.specs.Pass.{against_lowest, look_at};
 
 use crate::place::Place;
-use keys::order::{Ordering, compare};
-use run::bound::{Bound, is_past};
-use run::record::{Head, Record, head_at};
+use keys::order::compare;
+use run::bound::is_past;
+use run::record::{Record, head_at};
+use std::cmp::Ordering;
+use std::ops::Bound;
 use types::refusal::Refusal;
 
-// The record with the lowest key so far, in the highest run that holds it.
+// A record and the run that holds it.
 #[derive(Clone, Copy)]
-pub enum Lowest {
-    None,
-    Found(usize, Record),
-    Refused(Refusal),
+pub struct Holder {
+    pub run: usize,
+    pub head: Record,
 }
+
+// The record with the lowest key so far, in the highest run that holds it.
+pub type Lowest = Result<Option<Holder>, Refusal>;
 
 #[derive(Clone, Copy)]
 pub enum Look {
@@ -26,56 +32,43 @@ pub enum Look {
     Level(Record),
     // A key below the lowest, or the first.
     Below(Record),
-    Refused(Refusal),
-}
-
-// A head that is no record ends the run, or refuses it.
-fn without(head: Head) -> Look
-    ensures answers { result ≡ look_without head }
-{
-    match head {
-        Head::Nothing => Look::Gone,
-        Head::Record(_) => Look::Gone,
-        Head::Refused(why) => Look::Refused(why),
-    }
 }
 
 // How a key stands to the lowest so far, whose bytes are `low`.
+#[tactic(auto, unfolding(crate::specs::Pass::against_lowest))]
 fn against(lowest: Lowest, low: &[u8], key: &[u8]) -> Ordering
     ensures answers { result ≡ against_lowest lowest low.now key.now }
 {
     match lowest {
-        Lowest::None => Ordering::Less,
-        Lowest::Found(_, _) => compare(key, low),
-        Lowest::Refused(_) => Ordering::Less,
+        Ok(Some(_)) => compare(key, low),
+        Ok(None) | Err(_) => Ordering::Less,
     }
 }
 
 // What a run shows at its place.
+#[tactic(auto, unfolding(crate::specs::Pass::look_at, crate::specs::Pass::look_head, crate::specs::Pass::look_by))]
 pub(crate) fn look_at(
     run: &[u8],
     place: Place,
-    bound: Bound,
-    upper: &[u8],
+    upper: Bound<&[u8]>,
     lowest: Lowest,
     low: &[u8],
-) -> Look
-    ensures answers { result ≡ look_at run.now place bound upper.now lowest low.now }
+) -> Result<Look, Refusal>
+    ensures answers { result ≡ look_at run.now place (kind_of upper.entry) (key_of (bound_map (λ x. x.now) upper.entry)) lowest low.now }
 {
     let Place::At(at) = place else {
-        return Look::Gone;
+        return Ok(Look::Gone);
     };
-    let head = head_at(run, at);
-    let Head::Record(record) = head else {
-        return without(head);
+    let Some(record) = head_at(run, at)? else {
+        return Ok(Look::Gone);
     };
     let key = record.key_in(run);
-    if is_past(key, bound, upper) {
-        return Look::Gone;
+    if is_past(key, upper) {
+        return Ok(Look::Gone);
     }
     match against(lowest, low, key) {
-        Ordering::Less => Look::Below(record),
-        Ordering::Equal => Look::Level(record),
-        Ordering::Greater => Look::Above,
+        Ordering::Less => Ok(Look::Below(record)),
+        Ordering::Equal => Ok(Look::Level(record)),
+        Ordering::Greater => Ok(Look::Above),
     }
 }

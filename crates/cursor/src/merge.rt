@@ -1,75 +1,68 @@
 // The calls that are open to callers (docs/RULES.md, Merge; cursor.rs).
 ghost use Rattle.std.specs.Prelude.{◌≡◌, length};
-ghost use Rattle.cursor.specs.New.{refused_new, new_of};
+ghost use Rattle.std.specs.Range.Bound.{bound_map};
+ghost use Rattle.run.specs.Kinds.{kind_of, key_of};
+ghost use Rattle.cursor.specs.New.{new_by, new_of};
 ghost use Rattle.cursor.specs.Next.{places_by, next_of, next_key, next_value};
 
-use crate::answers::{Moved, NewCursor, NextAnswer};
+use crate::answers::{Entry, Moved, NextAnswer};
 use crate::checks::{check_new, check_next};
 use crate::deliver::deliver;
 use crate::pass::{Pass, settled};
 use crate::place::{Cursor, GONE, Place, RunPlace};
 use crate::runs::run_of;
-use run::bound::Bound;
-use run::search::{Sought, search};
-use types::answers::Outcome;
+use run::search::search;
+use std::ops::Bound;
 use types::config::FILE_COUNT;
-use types::refusal::{Refusal, Verdict};
+use types::refusal::Refusal;
 
-// A refused cursor: every run is gone.
-fn refused(why: Refusal) -> NewCursor
-    ensures answers { result ≡ refused_new why }
+// Each run's place under a lower bound. The runs are searched in list order.
+fn placed(
+    runs: &[u8],
+    ends: &[usize],
+    lower: Bound<&[u8]>,
+) -> Result<[RunPlace; FILE_COUNT], Refusal>
+    ensures answers { new_by result ≡ new_of runs.now ends.now (kind_of lower.entry) (key_of (bound_map (λ x. x.now) lower.entry)) }
 {
-    let places = [GONE; FILE_COUNT];
-    NewCursor {
-        cursor: Cursor { places },
-        answer: Outcome::Refused(why),
+    check_new(runs.len(), ends)?;
+    let mut places = [GONE; FILE_COUNT];
+    for i in 0..ends.len() {
+        if let Some(at) = search(run_of(runs, ends, i), lower)? {
+            places[i] = RunPlace {
+                place: Place::At(at),
+            };
+        }
     }
+    Ok(places)
 }
 
 // Only an entry steps its holders on.
+#[tactic(auto, unfolding(crate::specs::Next::places_by))]
 fn places_by(answer: NextAnswer, pass: Pass) -> [RunPlace; FILE_COUNT]
     ensures answers { result ≡ places_by answer pass }
 {
-    let NextAnswer::Entry {
-        key_len: _,
-        value_len: _,
-    } = answer
-    else {
-        return pass.places;
-    };
-    pass.stepped
+    match answer {
+        Ok(Some(_)) => pass.stepped,
+        Ok(None) | Err(_) => pass.places,
+    }
 }
 
 impl Cursor {
-    // Makes a cursor that starts at a lower bound. The runs are searched in list order.
-    pub fn new(runs: &[u8], ends: &[usize], bound: Bound, lower: &[u8]) -> NewCursor
-        ensures answers { result ≡ new_of runs.now ends.now bound lower.now }
+    // Makes a cursor that starts at a lower bound. In a refused one every run is gone.
+    pub fn new(runs: &[u8], ends: &[usize], lower: Bound<&[u8]>) -> Moved<()>
+        ensures answers { result ≡ new_of runs.now ends.now (kind_of lower.entry) (key_of (bound_map (λ x. x.now) lower.entry)) }
     {
-        let check = check_new(runs.len(), ends);
-        if let Verdict::Refused(why) = check {
-            return refused(why);
-        }
-        let mut places = [GONE; FILE_COUNT];
-        let mut i: usize = 0;
-        while i < ends.len() {
-            let here = i;
-            i += 1;
-            let run = run_of(runs, ends, here);
-            match search(run, bound, lower) {
-                Sought::Gone => {}
-                Sought::At(at) => {
-                    places[here] = RunPlace {
-                        place: Place::At(at),
-                    };
-                }
-                Sought::Refused(why) => {
-                    return refused(why);
-                }
-            }
-        }
-        NewCursor {
-            cursor: Cursor { places },
-            answer: Outcome::Done,
+        match placed(runs, ends, lower) {
+            Ok(places) => Moved {
+                cursor: Cursor { places },
+                answer: Ok(()),
+            },
+            Err(why) => Moved {
+                cursor: Cursor {
+                    places: [GONE; FILE_COUNT],
+                },
+                answer: Err(why),
+            },
         }
     }
 
@@ -78,29 +71,26 @@ impl Cursor {
         self,
         runs: &[u8],
         ends: &[usize],
-        bound: Bound,
-        upper: &[u8],
+        upper: Bound<&[u8]>,
         key: &mut [u8],
         value: &mut [u8],
-    ) -> Moved
-        ensures answers { result ≡ next_of runs.now ends.now bound upper.now self (length key.old) (length value.old) }
-        ensures bytes { (key.new ≡ next_key runs.now ends.now bound upper.now self key.old value.old)
-            × (value.new ≡ next_value runs.now ends.now bound upper.now self key.old value.old) }
+    ) -> Moved<Option<Entry>>
+        ensures answers { result ≡ next_of runs.now ends.now (kind_of upper.entry) (key_of (bound_map (λ x. x.now) upper.entry)) self
+            (length key.old) (length value.old) }
+        ensures bytes { (key.new ≡ next_key runs.now ends.now (kind_of upper.entry) (key_of (bound_map (λ x. x.now) upper.entry)) self key.old value.old)
+            × (value.new ≡ next_value runs.now ends.now (kind_of upper.entry) (key_of (bound_map (λ x. x.now) upper.entry)) self key.old value.old) }
     {
-        let places = self.places;
-        let check = check_next(runs.len(), ends, places);
-        if let Verdict::Refused(why) = check {
+        if let Err(why) = check_next(runs.len(), ends, self.places) {
             return Moved {
                 cursor: self,
-                answer: NextAnswer::Refused(why),
+                answer: Err(why),
             };
         }
-        let pass = settled(places, runs, ends, bound, upper);
-        let lowest = pass.lowest;
-        let answer = deliver(lowest, runs, ends, key, value);
-        let after = places_by(answer, pass);
+        let pass = settled(self.places, runs, ends, upper);
+        let answer = deliver(pass.lowest, runs, ends, key, value);
+        let places = places_by(answer, pass);
         Moved {
-            cursor: Cursor { places: after },
+            cursor: Cursor { places },
             answer,
         }
     }

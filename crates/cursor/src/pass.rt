@@ -1,15 +1,17 @@
 // A pass over all heads, and passes until the lowest key is live (docs/RULES.md, Merge; cursor.rs, the loop of next).
 ghost use Rattle.std.specs.Prelude.{◌≡◌, ◌≤◌, length};
+ghost use Rattle.std.specs.Range.Bound.{bound_map};
 ghost use Rattle.types.specs.Build.{file_count};
+ghost use Rattle.run.specs.Kinds.{kind_of, key_of};
 ghost use Rattle.cursor.specs.Pass.{pass_of};
 ghost use Rattle.cursor.specs.Places.{at_place};
 ghost use Rattle.cursor.specs.Settle.{is_hidden, settled};
 
-use crate::look::{Look, Lowest, look_at};
+use crate::look::{Holder, Look, Lowest, look_at};
 use crate::place::{GONE, Place, RunPlace};
-use run::bound::Bound;
+use crate::runs::run_of;
 use run::record::Record;
-use slices::part::part_to;
+use std::ops::Bound;
 use types::config::FILE_COUNT;
 
 // The places with the runs found gone, the same with the holders of the lowest key stepped on, and that key.
@@ -24,9 +26,8 @@ pub struct Pass {
 fn after(it: Record) -> RunPlace
     ensures answers { result ≡ at_place it.next }
 {
-    let next = it.next;
     RunPlace {
-        place: Place::At(next),
+        place: Place::At(it.next),
     }
 }
 
@@ -35,49 +36,46 @@ fn pass_over(
     start: [RunPlace; FILE_COUNT],
     runs: &[u8],
     ends: &[usize],
-    bound: Bound,
-    upper: &[u8],
+    upper: Bound<&[u8]>,
 ) -> Pass
     requires { length ends.now ≤ file_count }
-    ensures answers { result ≡ pass_of runs.now ends.now bound upper.now start }
+    ensures answers { result ≡ pass_of runs.now ends.now (kind_of upper.entry) (key_of (bound_map (λ x. x.now) upper.entry)) start }
 {
     let mut places = start;
     let mut stepped = start;
-    let mut lowest = Lowest::None;
+    let mut lowest = Ok(None);
     let mut low = &runs[..0];
-    let mut from: usize = 0;
-    let mut i: usize = 0;
-    while i < ends.len() {
-        let here = i;
-        i += 1;
-        let to = ends[here];
-        let run = part_to(runs, from, to);
-        from = to;
-        let p = places[here];
-        let place = p.place;
-        match look_at(run, place, bound, upper, lowest, low) {
+    for i in 0..ends.len() {
+        let run = run_of(runs, ends, i);
+        let look = match look_at(run, places[i].place, upper, lowest, low) {
+            Ok(look) => look,
+            Err(why) => {
+                return Pass {
+                    places,
+                    stepped,
+                    lowest: Err(why),
+                };
+            }
+        };
+        match look {
             Look::Gone => {
-                places[here] = GONE;
-                stepped[here] = GONE;
+                places[i] = GONE;
+                stepped[i] = GONE;
             }
             Look::Above => {}
             Look::Level(same) => {
-                stepped[here] = after(same);
-                lowest = Lowest::Found(here, same);
+                stepped[i] = after(same);
+                lowest = Ok(Some(Holder { run: i, head: same }));
                 low = same.key_in(run);
             }
             Look::Below(lower) => {
                 stepped = places;
-                stepped[here] = after(lower);
-                lowest = Lowest::Found(here, lower);
+                stepped[i] = after(lower);
+                lowest = Ok(Some(Holder {
+                    run: i,
+                    head: lower,
+                }));
                 low = lower.key_in(run);
-            }
-            Look::Refused(why) => {
-                return Pass {
-                    places,
-                    stepped,
-                    lowest: Lowest::Refused(why),
-                };
             }
         }
     }
@@ -89,13 +87,13 @@ fn pass_over(
 }
 
 // Whether the lowest key is a deletion.
+#[tactic(auto, unfolding(crate::specs::Settle::is_hidden))]
 fn is_hidden(lowest: Lowest) -> bool
     ensures answers { result ≡ is_hidden lowest }
 {
     match lowest {
-        Lowest::None => false,
-        Lowest::Found(_, record) => record.deleted,
-        Lowest::Refused(_) => false,
+        Ok(Some(held)) => held.head.deleted,
+        Ok(None) | Err(_) => false,
     }
 }
 
@@ -104,17 +102,15 @@ pub(crate) fn settled(
     start: [RunPlace; FILE_COUNT],
     runs: &[u8],
     ends: &[usize],
-    bound: Bound,
-    upper: &[u8],
+    upper: Bound<&[u8]>,
 ) -> Pass
     requires { length ends.now ≤ file_count }
-    ensures answers { result ≡ settled runs.now ends.now bound upper.now start }
+    ensures answers { result ≡ settled runs.now ends.now (kind_of upper.entry) (key_of (bound_map (λ x. x.now) upper.entry)) start }
 {
     let mut places = start;
     loop {
-        let pass = pass_over(places, runs, ends, bound, upper);
-        let lowest = pass.lowest;
-        if !is_hidden(lowest) {
+        let pass = pass_over(places, runs, ends, upper);
+        if !is_hidden(pass.lowest) {
             return pass;
         }
         places = pass.stepped;

@@ -7,39 +7,26 @@ use slices::part::part_to;
 fn end_of(ends: &[usize], i: usize) -> usize
     ensures answers { result ≡ end_of ends.now i }
 {
-    if i < ends.len() {
-        return ends[i];
-    }
-    0
+    ends.get(i).copied().unwrap_or(0)
 }
 
 // The first run starts at 0, each other at the end before it.
 fn start_of(ends: &[usize], i: usize) -> usize
     ensures answers { result ≡ start_of ends.now i }
 {
-    if i == 0 {
-        return 0;
-    }
-    end_of(ends, i - 1)
+    if i == 0 { 0 } else { end_of(ends, i - 1) }
 }
 
 // The bytes of run i.
-pub(crate) fn run_of<'a, 'b>(runs: &'a [u8], ends: &'b [usize], i: usize) -> &'a [u8]
+pub fn run_of<'a, 'b>(runs: &'a [u8], ends: &'b [usize], i: usize) -> &'a [u8]
     ensures answers { result.now ≡ run_of runs.now ends.now i }
 {
-    let from = start_of(ends, i);
-    let to = end_of(ends, i);
-    part_to(runs, from, to)
+    part_to(runs, start_of(ends, i), end_of(ends, i))
 }
 
 // How many bytes run i has.
 pub(crate) fn run_len(ends: &[usize], i: usize) -> usize
     ensures answers { result ≡ end_of ends.now i - start_of ends.now i }
 {
-    let from = start_of(ends, i);
-    let to = end_of(ends, i);
-    if from < to {
-        return to - from;
-    }
-    0
+    end_of(ends, i).saturating_sub(start_of(ends, i))
 }

@@ -9,9 +9,9 @@ use std::fs::File;
 use std::io;
 use std::io::Read;
 
-#[derive(Clone, Copy)]
-pub enum Filled {
-    To(usize),
+// Why the room does not have all of a file's bytes.
+#[derive(Clone, Copy, Debug, PartialEq, Eq)]
+pub enum NotFilled {
     // The file has more bytes than there is room for. The caller says how many it takes.
     More,
     // The file could not be read, which was said.
@@ -41,27 +41,20 @@ fn fill(
     name: &[u8],
     room: &mut [u8],
     at: usize,
-) -> Filled {
+) -> Result<usize, NotFilled> {
     let mut more = [0; 1];
     if room.len() < at {
-        return Filled::Bad;
+        return Err(NotFilled::Bad);
     }
     let n = read_full(file, &mut room[at..]);
     match file.read(&mut more) {
-        Ok(0) => Filled::To(at + n),
-        Ok(_) => Filled::More,
+        Ok(0) => Ok(at + n),
+        Ok(_) => Err(NotFilled::More),
         Err(why) => {
             fail(rt, program, name, &why);
-            Filled::Bad
+            Err(NotFilled::Bad)
         }
     }
-}
-
-fn is_dash(name: &[u8]) -> bool {
-    if name.len() == 1 {
-        return name[0] == b'-';
-    }
-    false
 }
 
 // Opens a file to read. A path is text here, so a name that is no UTF-8 is refused.
@@ -73,8 +66,14 @@ fn open(rt: &HostRuntime, name: &[u8]) -> io::Result<File> {
 }
 
 // The same for the file of a name; - is standard input.
-fn read_named(rt: &HostRuntime, program: &[u8], name: &[u8], room: &mut [u8], at: usize) -> Filled {
-    if is_dash(name) {
+fn read_named(
+    rt: &HostRuntime,
+    program: &[u8],
+    name: &[u8],
+    room: &mut [u8],
+    at: usize,
+) -> Result<usize, NotFilled> {
+    if name == b"-".as_slice() {
         let mut input = rt.stdin();
         return fill(rt, program, &mut input, b"standard input", room, at);
     }
@@ -82,13 +81,19 @@ fn read_named(rt: &HostRuntime, program: &[u8], name: &[u8], room: &mut [u8], at
         Ok(mut file) => fill(rt, program, &mut file, name, room, at),
         Err(why) => {
             fail(rt, program, name, &why);
-            Filled::Bad
+            Err(NotFilled::Bad)
         }
     }
 }
 
 // The same for the file that argument i names.
-pub fn read_file(rt: &HostRuntime, program: &[u8], i: usize, room: &mut [u8], at: usize) -> Filled {
+pub fn read_file(
+    rt: &HostRuntime,
+    program: &[u8],
+    i: usize,
+    room: &mut [u8],
+    at: usize,
+) -> Result<usize, NotFilled> {
     let mut name = [0; ARGUMENT_ROOM];
     match rt.arg(i, &mut name) {
         Ok(n) => read_named(rt, program, &name[..n], room, at),
@@ -99,7 +104,7 @@ pub fn read_file(rt: &HostRuntime, program: &[u8], i: usize, room: &mut [u8], at
                 b"a name is longer than 4096 bytes",
                 part_of(&name, 0, 60),
             );
-            Filled::Bad
+            Err(NotFilled::Bad)
         }
     }
 }

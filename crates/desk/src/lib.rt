@@ -3,5 +3,6 @@
 #![tactic(auto)]
 
 pub mod arguments;
+pub mod choice;
 pub mod files;
 pub mod say;

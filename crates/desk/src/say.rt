@@ -6,6 +6,10 @@ use std::fmt::InlineText;
 use std::io;
 use types::refusal::Refusal;
 
+// Something went wrong, and standard error has it.
+#[derive(Clone, Copy, Debug, PartialEq, Eq)]
+pub struct Said;
+
 pub fn text(rt: &HostRuntime, bytes: &[u8]) {
     text_on(&rt.stderr(), bytes);
 }
@@ -66,28 +70,9 @@ pub fn output_failed(rt: &HostRuntime, program: &[u8], why: &io::Error) {
     fail(rt, program, b"standard output", why);
 }
 
-// The name in the table of docs/RULES.md, Refusals.
-fn name_on(to: &impl Print, why: Refusal) {
-    match why {
-        Refusal::Corrupted => text_on(to, b"Corrupted"),
-        Refusal::KeyBufferTooSmall => text_on(to, b"KeyBufferTooSmall"),
-        Refusal::ValueBufferTooSmall => text_on(to, b"ValueBufferTooSmall"),
-        Refusal::OutOfRange => text_on(to, b"OutOfRange"),
-        Refusal::BadFlash => text_on(to, b"BadFlash"),
-        Refusal::BadHeader => text_on(to, b"BadHeader"),
-        Refusal::BadCount => text_on(to, b"BadCount"),
-        Refusal::LaterEdition => text_on(to, b"LaterEdition"),
-        Refusal::Cut => text_on(to, b"Cut"),
-        Refusal::BadRuns => text_on(to, b"BadRuns"),
-        Refusal::BadState => text_on(to, b"BadState"),
-    }
-}
-
+// The name and the number in the table of docs/RULES.md, Refusals.
 fn refusal_on(to: &impl Print, why: Refusal) {
-    name_on(to, why);
-    text_on(to, b" (");
-    number_on(to, why.number() as usize);
-    text_on(to, b")");
+    let _ = to.print(why);
 }
 
 // A refusal's name and number; where it is, the caller says next.

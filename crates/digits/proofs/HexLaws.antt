@@ -1,34 +1,15 @@
 -- The turns of decoding. Assumes nothing.
 use mathlib.Core.Path.{◌≡◌, refl, sym, ap, ◌∙◌}
-use mathlib.Core.Bool.{Bool, true, false, ◌&&◌}
 use mathlib.Core.List.{List, [], ◌∷◌}
 use mathlib.Core.Logic.{⊎_elim}
-use Prim.Native.Nat.{ℕ, zero, suc, ◌+◌, ◌-◌, ◌*◌, ◌/◌, ◌%◌, ◌≤◌, ◌<◌, min}
-use native.Mathlib.Numerals.{add-one}
+use Prim.Native.Nat.{ℕ, zero, suc, ◌+◌, ◌*◌, ◌/◌, ◌%◌, ◌<◌, min}
 use native.Mathlib.Omega.{arith}
-use lib.Dec.{eqb}
-use lib.ListN.{length, take, drop, get_or, set, drop_of_length-le}
-use lib.Seq.{drop-cons, take_all}
-use borrow.Author.Tests.{le-ltb, lt-ltb, le-leb, lt-leb}
+use lib.ListN.{length, take, get_or, set}
+use lib.Seq.{take_all}
 use Rattle.slices.specs.Patch.{over}
 use Rattle.slices.proofs.PatchLaws.{put-turn}
 use Rattle.types.proofs.TestLaws.{le-or-lt}
-use Rattle.digits.specs.Hex.{digit_in, digit_of, all_digits, byte_in, bytes_in, decoded_of, hex_of}
-use Rattle.digits.specs.declared.hex.Decoded.TheVariants.{Bytes, Bad, NoRoom}
-
--- ---- all digits
-
-pub other-found : (word : List ℕ) (i : ℕ) → i < length word → 16 ≤ digit_in (get_or word i 0) → false ≡ all_digits (drop i word)
-unfolding all_digits
-other-found word i h n = rw (drop-cons word i 0 h) (rw (le-ltb (digit_in (get_or word i 0)) 16 n))
-
-pub digit-passed : (word : List ℕ) (i : ℕ) → i < length word → digit_in (get_or word i 0) < 16 → all_digits (drop (i + 1) word) ≡ all_digits (drop i word)
-unfolding all_digits
-digit-passed word i h d = rw (add-one, drop-cons word i 0 h) (rw (lt-ltb (digit_in (get_or word i 0)) 16 d))
-
-pub all-passed : (word : List ℕ) (i : ℕ) → length word ≤ i → true ≡ all_digits (drop i word)
-unfolding all_digits
-all-passed word i h = rw (drop_of_length-le word h)
+use Rattle.digits.specs.Hex.{digit_of, byte_in, bytes_in, hex_of}
 
 -- ---- bytes
 
@@ -47,47 +28,6 @@ bytes_in-at (a ∷ b ∷ word) (suc i) h =
     let e : 2 * suc i ≡ suc (suc (2 * i)) = omega arith in
     let f : 2 * suc i + 1 ≡ suc (suc (2 * i + 1)) = omega arith in
     rw (f, e) (bytes_in-at word i (omega arith))
-
--- ---- one digit, by the way that the tests go
-
-pub digit_low : (d : ℕ) → d < 48 → 16 ≡ digit_in d
-unfolding digit_in
-digit_low d h = rw (lt-ltb d 48 h)
-
-pub digit-decimal : (d : ℕ) → 48 ≤ d → d ≤ 57 → d - 48 ≡ digit_in d
-unfolding digit_in
-digit-decimal d a h = rw (le-ltb d 48 a, le-leb d 57 h)
-
-pub digit-between : (d : ℕ) → 57 < d → d < 97 → 16 ≡ digit_in d
-unfolding digit_in
-digit-between d a h = let b : 48 ≤ d = omega arith in rw (le-ltb d 48 b, lt-leb d 57 a, lt-ltb d 97 h)
-
-pub digit-letter : (d : ℕ) → 97 ≤ d → d ≤ 102 → d - 87 ≡ digit_in d
-unfolding digit_in
-digit-letter d a h =
-    let b : 48 ≤ d = omega arith in
-    let e : 57 < d = omega arith in
-    rw (le-ltb d 48 b, lt-leb d 57 e, le-ltb d 97 a, le-leb d 102 h)
-
-pub digit-high : (d : ℕ) → 102 < d → 16 ≡ digit_in d
-unfolding digit_in
-digit-high d h =
-    let b : 48 ≤ d = omega arith in
-    let e : 57 < d = omega arith in
-    let f : 97 ≤ d = omega arith in
-    rw (le-ltb d 48 b, lt-leb d 57 e, le-ltb d 97 f, lt-leb d 102 h)
-
--- ---- decoding, by the way that the tests go
-
-module _ (word : List ℕ) (n : ℕ) (digits : Bool) (e : digits ≡ all_digits word) where
-  pub decoded-fits : (eqb (length word % 2) 0 && digits) ≡ true → length word / 2 ≤ n → Bytes (length word / 2) ≡ decoded_of word n
-  decoded-fits t h = rw (← e) (rw (t, le-leb (length word / 2) n h))
-
-  pub decoded-no-room : (eqb (length word % 2) 0 && digits) ≡ true → n < length word / 2 → NoRoom ≡ decoded_of word n
-  decoded-no-room t h = rw (← e) (rw (t, lt-leb (length word / 2) n h))
-
-  pub decoded-bad : (eqb (length word % 2) 0 && digits) ≡ false → Bad ≡ decoded_of word n
-  decoded-bad t = rw (← e) (rw t)
 
 -- ---- encoding
 

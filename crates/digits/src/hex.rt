@@ -1,57 +1,42 @@
 // Bytes in hex, and numbers as hex digits.
-ghost use Rattle.std.specs.Prelude.{◌≡◌, [], ◌≤◌, ◌*◌, ◌/◌, ◌%◌, min, length, take};
+ghost use Rattle.std.specs.Prelude.{◌≡◌, [], ◌<◌, ◌≤◌, ◌*◌, ◌/◌, ◌%◌, min, length, take, IfSome};
 ghost use Rattle.slices.specs.Patch.{over};
 ghost use Rattle.digits.specs.Hex.{digit_in, digit_of, all_digits, byte_in, bytes_in, decoded_of, buffer_after, digits_of, hex_of};
 
-use types::num::min;
+use std::cmp::Ord;
 
-// What a word in hex comes to.
-#[derive(Clone, Copy)]
-pub enum Decoded {
-    // How many bytes were put at the buffer's start.
-    Bytes(usize),
+// Why a word in hex is no bytes.
+#[derive(Clone, Copy, Debug, PartialEq, Eq)]
+pub enum DecodeError {
     // The word is not pairs of digits.
     Bad,
     // The buffer is too small.
     NoRoom,
 }
 
-// What a digit counts, or 16.
-pub(crate) fn digit_in(d: u8) -> u8
+// What a digit counts; none for any other byte.
+#[tactic(auto, unfolding(crate::specs::Hex::digit_in))]
+pub(crate) fn digit_in(d: u8) -> Option<u8>
     ensures answers { result ≡ digit_in d }
+    ensures bound { IfSome result (λ n. n < 16) }
 {
-    if d < 48 {
-        return 16;
+    match d {
+        b'0'..=b'9' => Some(d - b'0'),
+        b'a'..=b'f' => Some(d - b'a' + 10),
+        _ => None,
     }
-    if d <= 57 {
-        return d - 48;
-    }
-    if d < 97 {
-        return 16;
-    }
-    if d <= 102 {
-        return d - 87;
-    }
-    16
 }
 
 fn all_digits(word: &[u8]) -> bool
     ensures answers { result ≡ all_digits word.now }
 {
-    let mut i = 0;
-    while i < word.len() {
-        if 16 <= digit_in(word[i]) {
-            return false;
-        }
-        i += 1;
-    }
-    true
+    word.iter().all(|d| digit_in(*d).is_some())
 }
 
 fn byte_in(a: u8, b: u8) -> u8
     ensures answers { result ≡ byte_in a b }
 {
-    digit_in(a) % 16 * 16 + digit_in(b) % 16
+    digit_in(a).unwrap_or(0) * 16 + digit_in(b).unwrap_or(0)
 }
 
 fn put_bytes(word: &[u8], out: &mut [u8])
@@ -65,20 +50,20 @@ fn put_bytes(word: &[u8], out: &mut [u8])
     }
 }
 
-// Decodes a word into the buffer's start.
-pub fn decode(word: &[u8], out: &mut [u8]) -> Decoded
+// Decodes a word into the buffer's start: how many bytes were put there.
+pub fn decode(word: &[u8], out: &mut [u8]) -> Result<usize, DecodeError>
     ensures answers { result ≡ decoded_of word.now (length out.old) }
     ensures bytes { out.new ≡ buffer_after result word.now out.old }
 {
     let n = word.len() / 2;
-    if (word.len() % 2 == 0) & all_digits(word) {
-        if n <= out.len() {
-            put_bytes(word, out);
-            return Decoded::Bytes(n);
-        }
-        return Decoded::NoRoom;
+    if (word.len() % 2 != 0) | !all_digits(word) {
+        return Err(DecodeError::Bad);
     }
-    Decoded::Bad
+    if out.len() < n {
+        return Err(DecodeError::NoRoom);
+    }
+    put_bytes(word, out);
+    Ok(n)
 }
 
 fn digit_of(n: u32) -> u8
@@ -121,7 +106,7 @@ pub fn encode(bytes: &[u8], out: &mut [u8]) -> usize
     ensures answers { result ≡ 2 * min (length bytes.now) (length out.old / 2) }
     ensures bytes { out.new ≡ over (hex_of (take (length out.old / 2) bytes.now)) out.old }
 {
-    let n = min(bytes.len(), out.len() / 2);
+    let n = bytes.len().min(out.len() / 2);
     for i in 0..n {
         out[2 * i] = high_digit(bytes[i]);
         out[2 * i + 1] = low_digit(bytes[i]);

@@ -1,83 +1,52 @@
 // Numbers as words: decimal ones, and eight digits in hex.
-ghost use Rattle.std.specs.Prelude.{◌≡◌, ◌≤◌, ◌<◌};
+ghost use Rattle.std.specs.Prelude.{◌≡◌};
+ghost use Rattle.digits.specs.Hex.{digit_in};
 ghost use Rattle.digits.specs.Numbers.{with_digit, number_in, decimal_in, word32_in, apart_of};
 
 use crate::hex::digit_in;
 
-const MOST_64: usize = 0xFFFF_FFFF_FFFF_FFFF;
-
-const MOST_32: usize = 0xFFFF_FFFF;
-
-// What a word in decimal comes to.
-#[derive(Clone, Copy)]
-pub enum Number {
-    Value(usize),
-    // It is empty, has another byte than digits, or passes 64 bits.
-    NoNumber,
-}
-
-// What a word of eight hex digits comes to.
-#[derive(Clone, Copy)]
-pub enum Word32 {
-    Word(u32),
-    NoWord,
-}
-
 // n with one more digit, if that is a digit of the base and the number stays within the limit.
-fn with_digit(base: usize, most: usize, n: usize, d: u8) -> Number
-    requires base_nonzero { 0 < base }
-    requires base_le_most { base ≤ most }
-    ensures answers { result ≡ with_digit base most n d }
+fn with_digit(base: usize, most: usize, n: usize, d: u8) -> Option<usize>
+    ensures answers { result ≡ with_digit base most n (digit_in d) }
 {
-    let digit = d as usize;
+    let digit = digit_in(d)? as usize;
     if base <= digit {
-        return Number::NoNumber;
+        return None;
     }
-    if n <= (most - digit) / base {
-        Number::Value(n * base + digit)
-    } else {
-        Number::NoNumber
-    }
+    let next = n.checked_mul(base)?.checked_add(digit)?;
+    if next <= most { Some(next) } else { None }
 }
 
-fn number_in(base: usize, most: usize, word: &[u8]) -> Number
-    requires base_nonzero { 0 < base }
-    requires base_le_most { base ≤ most }
+fn number_in(base: usize, most: usize, word: &[u8]) -> Option<usize>
     ensures answers { result ≡ number_in base most word.now }
 {
-    if word.len() == 0 {
-        return Number::NoNumber;
+    if word.is_empty() {
+        return None;
     }
     let mut n = 0;
-    let mut i = 0;
-    while i < word.len() {
-        let Number::Value(next) = with_digit(base, most, n, digit_in(word[i])) else {
-            return Number::NoNumber;
-        };
-        n = next;
-        i += 1;
+    for d in word {
+        n = with_digit(base, most, n, *d)?;
     }
-    Number::Value(n)
+    Some(n)
 }
 
-// A decimal number of up to 64 bits.
-pub fn decimal_in(word: &[u8]) -> Number
+// A decimal number of up to 64 bits; none where the word is empty, has another byte than digits, or passes them.
+pub fn decimal_in(word: &[u8]) -> Option<usize>
     ensures answers { result ≡ decimal_in word.now }
 {
-    number_in(10, MOST_64, word)
+    number_in(10, usize::MAX, word)
 }
 
 // Eight digits in hex, the highest first.
-pub fn word32_in(word: &[u8]) -> Word32
+#[tactic(auto, using(crate::proofs::NumberLaws::number_within))]
+pub fn word32_in(word: &[u8]) -> Option<u32>
     ensures answers { result ≡ word32_in word.now }
 {
     if word.len() != 8 {
-        return Word32::NoWord;
+        return None;
     }
-    let Number::Value(n) = number_in(16, MOST_32, word) else {
-        return Word32::NoWord;
-    };
-    Word32::Word(n as u32)
+    let n = number_in(16, u32::MAX as usize, word)?;
+    Some(n as u32)
 }
 
 // A number with its sign apart.
@@ -91,15 +60,8 @@ pub struct Apart {
 pub fn sign_apart(n: isize) -> Apart
     ensures answers { result ≡ apart_of n }
 {
-    if n < 0 {
-        Apart {
-            below: true,
-            size: (-1 - n) as usize + 1,
-        }
-    } else {
-        Apart {
-            below: false,
-            size: n as usize,
-        }
+    Apart {
+        below: n < 0,
+        size: n.unsigned_abs(),
     }
 }

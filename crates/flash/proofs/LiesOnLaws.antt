@@ -2,31 +2,16 @@
 use mathlib.Core.Path.{◌≡◌, refl, ap, ◌∙◌}
 use mathlib.Core.Bool.{Bool, true, false, not, ◌&&◌}
 use mathlib.Core.List.{List, [], ◌∷◌, ◌++◌}
-use mathlib.Core.Logic.{⊎_elim}
-use Prim.Native.Nat.{ℕ, ◌+◌, ◌-◌, ◌≤◌, ◌<◌}
+use Prim.Native.Nat.{ℕ, ◌-◌}
 use native.Mathlib.Omega.{arith}
-use lib.Dec.{leb}
 use lib.ListN.{length, take}
-use borrow.Author.Tests.{le-leb, lt-leb}
 use Rattle.types.specs.Build.{page_size, align}
-use Rattle.types.proofs.TestLaws.{both_true, le-or-lt, leb-iff}
+use Rattle.types.proofs.TestLaws.{both_true}
 use Rattle.flash.specs.Geometry.{page_start}
 use Rattle.flash.specs.Operations.{Op, erase, store, op_if, lies_on, all_lie_on, spent_on, allowed_on}
 use Rattle.flash.specs.declared.ops.Spent.{Spent}
 use Rattle.flash.proofs.OperationLaws.{Ran, ran_append}
 use Rattle.flash.proofs.PageLaws.{length-applied}
-
--- ---- the test of a store
-
--- a sum that might be too large for the machine is not formed
-pub fits-store : (there : Bool) (at n room : ℕ) → room ≡ page_size - at
-    → (there && leb at page_size && leb n room) ≡ (there && leb (at + n) page_size)
-fits-store true at n room e =
-    ⊎_elim
-    (λ (h : at ≤ page_size). rw (le-leb at page_size h) (leb-iff n room (at + n) page_size (λ q. omega arith) (λ q. omega arith)))
-    (λ (h : page_size < at). rw (lt-leb at page_size h) (rw (lt-leb (at + n) page_size (omega arith))))
-    (le-or-lt at page_size)
-fits-store false at n room e = refl
 
 -- ---- a list in two parts
 
@@ -74,13 +59,6 @@ pub off-flash : (p left : ℕ) (due lies : Bool) (op : Op) (xs : List ℕ) → l
 off-flash p left true true op xs t e = let z : ◌≡◌ {A = ℕ} 0 1 = cc in absurd (omega arith)
 off-flash p left true false op xs t e = (rw (← t), rw (← t))
 off-flash p left false lies op xs t e = let z : ◌≡◌ {A = ℕ} 0 1 = cc in absurd (omega arith)
-
--- it is not due, or the test says that it lies there
-pub on-flash : (p left : ℕ) (due lies : Bool) (op : Op) (xs ys : List ℕ) (r : Spent) → lies ≡ lies_on (length xs) p op → (due && not lies) ≡ false
-    → Ran (page_start p) left (op_if due op) xs r ys → RanOn p left (op_if due op) xs r ys
-on-flash p left true true op xs ys r t e ran = ran_on p left (op ∷ []) xs ys r (rw (← t)) ran
-on-flash p left true false op xs ys r t e ran = let z : ◌≡◌ {A = ℕ} 0 1 = cc in absurd (omega arith)
-on-flash p left false lies op xs ys r t e ran = ran_on p left [] xs ys r refl ran
 
 -- ---- on a flash of one page
 

@@ -1,17 +1,17 @@
 -- Lists of operations, and what is left of the number of them. Assumes nothing.
 use mathlib.Core.Path.{◌≡◌, refl, sym, ap, ◌∙◌}
-use mathlib.Core.Bool.{Bool, true, false, ◌&&◌, not}
+use mathlib.Core.Bool.{Bool, true, ◌&&◌}
 use mathlib.Core.List.{List, [], ◌∷◌, ◌++◌}
 use mathlib.Core.Logic.{⊎_elim}
 use Prim.Native.Nat.{ℕ, zero, suc, ◌+◌, ◌-◌}
 use native.Mathlib.Nat.{sub-zero, zero-sub, suc-sub-suc}
 use native.Mathlib.Omega.{arith}
-use lib.Dec.{eqb, leb-zero}
+use lib.Dec.{leb-zero}
 use lib.ListN.{length, take, length-append}
 use lib.Seq.{take-nil}
-use borrow.Author.Tests.{le-leb, lt-leb, ne_eqb}
+use borrow.Author.Tests.{le-leb, lt-leb}
 use Rattle.types.proofs.TestLaws.{le-or-lt, leb-iff}
-use Rattle.flash.specs.Operations.{Op, op_if, made, applied, spent, allowed}
+use Rattle.flash.specs.Operations.{Op, made, applied, spent, allowed}
 use Rattle.flash.specs.declared.ops.Spent.{Spent}
 
 -- ---- a list in two parts
@@ -56,28 +56,3 @@ ran_append base left a b xs ys zs r s p q = (
       (rw (q.0, p.0) (sym (spent-left left a b))),
   q.1 ∙ rw (p.1, p.0) (sym (rw (take-append, applied-append))),
 )
-
--- ---- one operation, if it is due
-
-some : (n : ℕ) → eqb (suc n) 0 ≡ false
-some n = ne_eqb (suc n) 0 (λ (e : suc n ≡ 0). omega arith)
-
-one-spent : (left : ℕ) (op : Op) → ◌≡◌ {A = Spent} (record { ok = not (eqb left 0); left = left - 1 }) (spent left (op ∷ []))
-one-spent zero op = refl
-one-spent (suc n) op = rw (le-leb 1 (suc n) (omega arith), some n)
-
-pub spent-due : (left : ℕ) (due : Bool) (op : Op) → due ≡ true → ◌≡◌ {A = Spent} (record { ok = not (eqb left 0); left = left - 1 }) (spent left (op_if due op))
-spent-due left due op e = one-spent left op ∙ ap (λ (d : Bool). spent left (op_if d op)) (sym e)
-
-pub spent-not-due : (left : ℕ) (due : Bool) (op : Op) → due ≡ false → ◌≡◌ {A = Spent} (record { ok = true; left = left }) (spent left (op_if due op))
-spent-not-due left due op e = rw e (rw (leb-zero, sub-zero))
-
-pub made-due : (base left : ℕ) (xs : List ℕ) (due : Bool) (op : Op) → (due && not (eqb left 0)) ≡ true → made base op xs ≡ allowed base left (op_if due op) xs
-made-due base zero xs true op e = let z : ◌≡◌ {A = ℕ} 0 1 = cc in absurd (omega arith)
-made-due base (suc n) xs true op e = ap (λ (l : List Op). applied base (op ∷ l) xs) (sym (take-nil n))
-made-due base left xs false op e = let z : ◌≡◌ {A = ℕ} 0 1 = cc in absurd (omega arith)
-
-pub kept-not-due : (base left : ℕ) (xs : List ℕ) (due : Bool) (op : Op) → (due && not (eqb left 0)) ≡ false → xs ≡ allowed base left (op_if due op) xs
-kept-not-due base zero xs true op e = refl
-kept-not-due base (suc n) xs true op e = let f : eqb (suc n) 0 ≡ false = some n in let z : ◌≡◌ {A = ℕ} 0 1 = cc in absurd (omega arith)
-kept-not-due base left xs false op e = ap (λ (l : List Op). applied base l xs) (sym (take-nil left))

@@ -1,10 +1,8 @@
 -- The lent flash: 1 to 256 whole pages (docs/FORMAT.md, Numbers and flash). Assumes nothing.
-use Rattle.std.specs.Prelude.{Bool, ◌&&◌, List, ℕ, ◌*◌, ◌/◌, ◌%◌, eqb, leb, ltb, take, drop}
+use Rattle.std.specs.Prelude.{Bool, ◌&&◌, List, ℕ, ◌*◌, ◌/◌, ◌%◌, eqb, leb, ltb, take, drop, Ok}
 use Rattle.types.specs.Build.{page_size, max_page_count}
-use Rattle.types.specs.Checks.{asking}
+use Rattle.types.specs.Checks.{asking, Verdict}
 use Rattle.types.specs.declared.refusal.Refusal.TheVariants.{BadFlash}
-use Rattle.types.specs.declared.refusal.Verdict.{Verdict}
-use Rattle.types.specs.declared.refusal.Verdict.TheVariants.{Fine}
 
 -- whether n bytes are 1 to 256 whole pages
 abbrev pub flash_fine : ℕ → Bool
@@ -12,7 +10,7 @@ flash_fine n = eqb (n % page_size) 0 && leb page_size n && leb n (max_page_count
 
 -- a flash of n bytes is fine, or it is 5
 abbrev pub flash_check : ℕ → Verdict
-flash_check n = asking (flash_fine n) BadFlash Fine
+flash_check n = asking (flash_fine n) BadFlash (Ok tt)
 
 -- how many whole pages n bytes are
 abbrev pub whole_pages : ℕ → ℕ

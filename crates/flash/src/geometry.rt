@@ -5,16 +5,16 @@ ghost use Rattle.flash.specs.Geometry.{flash_check, whole_pages, page_start, has
 use slices::part::part_of;
 use types::config::{MAX_PAGE_COUNT, PAGE_SIZE};
 use types::page_id::PageID;
-use types::refusal::{Refusal, Verdict};
+use types::refusal::Refusal;
 
 // Fine, or 5 where a flash of this many bytes is not 1 to 256 whole pages.
-pub fn check_flash(bytes: usize) -> Verdict
+pub fn check_flash(bytes: usize) -> Result<(), Refusal>
     ensures answers { result ≡ flash_check bytes }
 {
-    if (bytes % PAGE_SIZE == 0) & (PAGE_SIZE <= bytes) & (bytes <= MAX_PAGE_COUNT * PAGE_SIZE) {
-        Verdict::Fine
+    if bytes % PAGE_SIZE == 0 && PAGE_SIZE <= bytes && bytes <= MAX_PAGE_COUNT * PAGE_SIZE {
+        Ok(())
     } else {
-        Verdict::Refused(Refusal::BadFlash)
+        Err(Refusal::BadFlash)
     }
 }
 

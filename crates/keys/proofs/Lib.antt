@@ -1,3 +1,2 @@
-pub mod AlikeLaws
-pub mod KeyLaws
 pub mod OrderLaws
+pub mod StdLaws

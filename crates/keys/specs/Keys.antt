@@ -1,7 +1,7 @@
 -- The order of keys: bytewise, a prefix first (docs/FORMAT.md, Runs). Assumes nothing.
-use Rattle.std.specs.Prelude.{◌≡◌, Bool, true, false, cond, ◌&&◌, ◌||◌, List, [], ◌∷◌, ℕ, ◌≤◌, ltb, eqb, length, take}
-use Rattle.keys.specs.declared.order.Ordering.{Ordering}
-use Rattle.keys.specs.declared.order.Ordering.TheVariants.{Less, Equal, Greater}
+use Rattle.std.specs.Prelude.{Bool, true, false, cond, ◌&&◌, ◌||◌, List, [], ◌∷◌, ℕ, ltb, eqb}
+use Rattle.std.specs.declared.cmp.Ordering.{Ordering}
+use Rattle.std.specs.declared.cmp.Ordering.TheVariants.{Less, Equal, Greater}
 
 -- how the first key stands to the second
 unfoldable pub compare_keys : List ℕ → List ℕ → Ordering
@@ -16,9 +16,3 @@ is_below [] [] = false
 is_below [] (b ∷ t) = true
 is_below (a ∷ s) [] = false
 is_below (a ∷ s) (b ∷ t) = ltb a b || (eqb a b && is_below s t)
-
--- the first `size` bytes are the same in both
-pub record Alike (a b : List ℕ) (size : ℕ) : Type 0 where
-  pub first : size ≤ length a
-  pub second : size ≤ length b
-  pub same : take size a ≡ take size b

@@ -13,11 +13,12 @@ pub struct Step {
 }
 
 // A position past its run is a state out of range.
+#[tactic(auto, unfolding(crate::specs::Steps::head_within))]
 fn head_within(run: &[u8], at: usize) -> Head
     ensures answers { result ≡ head_within run.now at }
 {
     if run.len() < at {
-        return Head::Refused(Refusal::BadState);
+        return Err(Refusal::BadState);
     }
     head_at(run, at)
 }
@@ -27,12 +28,13 @@ fn place_after(head: Head, at: usize) -> usize
     ensures answers { result ≡ place_after head at }
 {
     match head {
-        Head::Nothing => at,
-        Head::Record(record) => record.next,
-        Head::Refused(_) => at,
+        Ok(None) => at,
+        Ok(Some(record)) => record.next,
+        Err(_) => at,
     }
 }
 
+#[tactic(auto, unfolding(crate::specs::Steps::step_at))]
 pub(crate) fn step_at(run: &[u8], at: usize) -> Step
     ensures answers { result ≡ step_at run.now at }
 {

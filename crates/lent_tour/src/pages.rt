@@ -1,55 +1,46 @@
 // The allocator, made here and lent to each call.
 use crate::say;
 use alloc::allocator::Allocator;
-use alloc::answers::{Allocated, Count};
 use lent::allocator;
+use types::page_id::PageID;
+use types::refusal::Refusal;
 
 #[derive(Clone, Copy)]
 struct HandedOut {
-    first: Allocated,
-    second: Allocated,
-    left: Count,
+    first: Result<Option<PageID>, Refusal>,
+    second: Result<Option<PageID>, Refusal>,
+    left: Result<usize, Refusal>,
 }
 
 // Of four pages, from page 7 modulo 4 on, two are handed out.
 fn hand_out() -> HandedOut {
     let mut pages = Allocator::new();
-    allocator::reset(&mut pages, 4, 7);
-    let first = allocator::try_allocate(&mut pages);
-    let second = allocator::try_allocate(&mut pages);
-    let left = allocator::free_pages(&pages);
+    let _ = allocator::reset(&mut pages, 4, 7);
     HandedOut {
-        first,
-        second,
-        left,
+        first: allocator::try_allocate(&mut pages),
+        second: allocator::try_allocate(&mut pages),
+        left: allocator::free_pages(&pages),
     }
 }
 
-fn say_page(rt: &impl Print, answer: Allocated) {
-    say::text(rt, b"page");
+// A line with a number, with none, or with why there is no answer.
+fn say_line(rt: &impl Print, what: &str, answer: Result<Option<usize>, Refusal>) {
+    say::text(rt, what);
     match answer {
-        Allocated::Page(page) => say::number(rt, page.index()),
-        Allocated::None => say::text(rt, b" none"),
-        Allocated::Refused(why) => say::refused(rt, why),
+        Ok(Some(n)) => say::number(rt, n),
+        Ok(None) => say::text(rt, " none"),
+        Err(why) => say::refused(rt, why),
     }
-    say::text(rt, b"\n");
+    say::text(rt, "\n");
 }
 
-fn say_left(rt: &impl Print, answer: Count) {
-    say::text(rt, b"left");
-    match answer {
-        Count::Pages(n) => say::number(rt, n),
-        Count::Refused(why) => say::refused(rt, why),
-    }
-    say::text(rt, b"\n");
+fn say_page(rt: &impl Print, answer: Result<Option<PageID>, Refusal>) {
+    say_line(rt, "page", answer.map(|page| page.map(PageID::index)));
 }
 
 pub(crate) fn tour(rt: &impl Print) {
     let got = hand_out();
-    let first = got.first;
-    let second = got.second;
-    let left = got.left;
-    say_page(rt, first);
-    say_page(rt, second);
-    say_left(rt, left);
+    say_page(rt, got.first);
+    say_page(rt, got.second);
+    say_line(rt, "left", got.left.map(Some));
 }

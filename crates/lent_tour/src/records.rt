@@ -1,63 +1,40 @@
 // A run, read by a reader that holds it and, step by step, by a caller without one.
 use crate::say;
 use lent::reader;
-use run::record::{Head, Record};
-
-// The record, or one without bytes where there is none.
-fn record_of(head: Head) -> Record {
-    match head {
-        Head::Nothing => Record {
-            deleted: true,
-            key: 0,
-            value: 0,
-            next: 0,
-        },
-        Head::Record(record) => record,
-        Head::Refused(_) => Record {
-            deleted: true,
-            key: 0,
-            value: 0,
-            next: 0,
-        },
-    }
-}
-
-fn say_parts<'a>(rt: &impl Print, key: &'a [u8], value: &'a [u8]) {
-    say::text(rt, b"first ");
-    say::text(rt, key);
-    say::text(rt, b" = ");
-    say::text(rt, value);
-    say::text(rt, b"\n");
-}
+use run::record::Head;
 
 // The first record's key and value, by a reader that holds the run.
 fn say_first(rt: &impl Print, run: &[u8]) {
     let mut reader = reader::new(run);
-    let found = record_of(reader::next(&mut reader));
-    say_parts(rt, reader::key(reader, found), reader::value(reader, found));
+    if let Ok(Some(found)) = reader::next(&mut reader) {
+        say::text(rt, "first ");
+        say::bytes(rt, reader::key(reader, found));
+        say::text(rt, " = ");
+        say::bytes(rt, reader::value(reader, found));
+        say::text(rt, "\n");
+    }
 }
 
 fn say_head(rt: &impl Print, run: &[u8], head: Head) {
     match head {
-        Head::Nothing => say::text(rt, b" end"),
-        Head::Record(record) => {
-            say::text(rt, b" ");
-            say::text(rt, record.key_in(run));
+        Ok(Some(record)) => {
+            say::text(rt, " ");
+            say::bytes(rt, record.key_in(run));
         }
-        Head::Refused(why) => say::refused(rt, why),
+        Ok(None) => say::text(rt, " end"),
+        Err(why) => say::refused(rt, why),
     }
 }
 
 // What stands at a position, and the position afterwards.
 fn say_step(rt: &impl Print, run: &[u8], at: usize) -> usize {
     let step = reader::read_at(run, at);
-    let head = step.head;
-    say::text(rt, b"at");
+    say::text(rt, "at");
     say::number(rt, at);
-    say_head(rt, run, head);
-    say::text(rt, b", then at");
+    say_head(rt, run, step.head);
+    say::text(rt, ", then at");
     say::number(rt, step.at);
-    say::text(rt, b"\n");
+    say::text(rt, "\n");
     step.at
 }
 

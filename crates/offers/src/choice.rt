@@ -1,196 +1,135 @@
 // What the arguments ask for. Keys and names stay where they are: only their places are kept.
 use crate::help::usage_on;
-use desk::arguments::{ARGUMENT_ROOM, argument_count};
-use desk::say::wrong;
-use run::bound::Bound;
-use slices::part::part_of;
-use std::env::Env;
+use desk::choice::{Choice, TOO_LONG, choose};
+use desk::say::{Said, wrong};
+use std::ops::Bound;
 use types::config::FILE_COUNT;
 
 #[derive(Clone, Copy)]
-pub(crate) struct Choice {
-    // Whether all arguments so far can be taken.
-    pub fine: bool,
+pub(crate) struct Asked {
     pub helps: bool,
     pub only_count: bool,
     // Whether each line names the run that decided, and whether UTF-8 is printed as it is.
     pub why: bool,
     pub utf8: bool,
-    // For each bound the option that its key follows, 0 where there is none, and whether the key itself is taken in.
-    pub lower_at: usize,
-    pub from: bool,
-    pub upper_at: usize,
-    pub to: bool,
+    // For each end of the list the argument that is its key, if there is one.
+    pub lower: Bound<usize>,
+    pub upper: Bound<usize>,
     // Whether the next argument is a key.
-    pub takes: bool,
+    takes: bool,
+    // How many runs are named, and the arguments that name them.
+    files: usize,
+    names: [usize; FILE_COUNT],
+}
+
+// The bound that an end of the list is, with the key that its argument spells.
+pub(crate) fn bound_of(end: Bound<usize>, key: &[u8]) -> Bound<&[u8]> {
+    end.map(|_| key)
+}
+
+// Sets an end of the list.
+fn set(
+    end: &mut Bound<usize>,
+    to: Bound<usize>,
+    twice: &'static [u8],
+) -> Result<(), &'static [u8]> {
+    let Bound::Unbounded = *end else {
+        return Err(twice);
+    };
+    *end = to;
+    Ok(())
+}
+
+impl Asked {
+    pub(crate) fn nothing() -> Asked {
+        Asked {
+            helps: false,
+            only_count: false,
+            why: false,
+            utf8: false,
+            lower: Bound::Unbounded,
+            upper: Bound::Unbounded,
+            takes: false,
+            files: 0,
+            names: [0; FILE_COUNT],
+        }
+    }
+
     // The arguments that name the runs.
-    pub files: usize,
-    pub names: [usize; FILE_COUNT],
-}
-
-fn bound_of(at: usize, takes_in: bool) -> Bound {
-    if at == 0 {
-        return Bound::Unbounded;
-    }
-    if takes_in {
-        Bound::Included
-    } else {
-        Bound::Excluded
-    }
-}
-
-fn at_first() -> Choice {
-    Choice {
-        fine: true,
-        helps: false,
-        only_count: false,
-        why: false,
-        utf8: false,
-        lower_at: 0,
-        from: false,
-        upper_at: 0,
-        to: false,
-        takes: false,
-        files: 0,
-        names: [0; FILE_COUNT],
-    }
-}
-
-impl Choice {
-    pub(crate) fn lower(self) -> Bound {
-        bound_of(self.lower_at, self.from)
+    pub(crate) fn runs(&self) -> &[usize] {
+        self.names.get(..self.files).unwrap_or(&self.names)
     }
 
-    pub(crate) fn upper(self) -> Bound {
-        bound_of(self.upper_at, self.to)
-    }
-
-    // The choice after an argument that cannot be taken; only the first one is named.
-    fn stopped(mut self, rt: &HostRuntime, what: &[u8], argument: &[u8]) -> Choice {
-        if self.fine {
-            wrong(rt, b"offers", what, argument);
-        }
-        self.fine = false;
-        self
-    }
-
-    fn with_lower(mut self, rt: &HostRuntime, takes_in: bool, i: usize, word: &[u8]) -> Choice {
-        if self.lower_at != 0 {
-            return self.stopped(rt, b"a second lower bound", word);
-        }
-        self.from = takes_in;
-        self.lower_at = i;
+    fn take_lower(&mut self, to: Bound<usize>) -> Result<(), &'static [u8]> {
+        set(&mut self.lower, to, b"a second lower bound")?;
         self.takes = true;
-        self
+        Ok(())
     }
 
-    fn with_upper(mut self, rt: &HostRuntime, takes_in: bool, i: usize, word: &[u8]) -> Choice {
-        if self.upper_at != 0 {
-            return self.stopped(rt, b"a second upper bound", word);
-        }
-        self.to = takes_in;
-        self.upper_at = i;
+    fn take_upper(&mut self, to: Bound<usize>) -> Result<(), &'static [u8]> {
+        set(&mut self.upper, to, b"a second upper bound")?;
         self.takes = true;
-        self
+        Ok(())
     }
 
-    fn with_file(mut self, rt: &HostRuntime, i: usize, word: &[u8]) -> Choice {
-        let k = self.files;
-        if FILE_COUNT <= k {
-            return self.stopped(rt, b"more than 17 runs", word);
+    fn take_option(&mut self, i: usize, word: &[u8]) -> Result<(), &'static [u8]> {
+        let key = i.saturating_add(1);
+        match word {
+            b"--from" => return self.take_lower(Bound::Included(key)),
+            b"--after" => return self.take_lower(Bound::Excluded(key)),
+            b"--to" => return self.take_upper(Bound::Included(key)),
+            b"--before" => return self.take_upper(Bound::Excluded(key)),
+            b"--count" => self.only_count = true,
+            b"--why" => self.why = true,
+            b"--utf8" => self.utf8 = true,
+            b"--help" | b"-h" => self.helps = true,
+            _ => return Err(b"no such option"),
         }
-        let mut names = self.names;
-        names[k] = i;
-        self.names = names;
-        self.files = k + 1;
-        self
+        Ok(())
     }
 
-    fn with_flag(mut self, rt: &HostRuntime, word: &[u8]) -> Choice {
-        if word == b"--count".as_slice() {
-            self.only_count = true;
-            return self;
-        }
-        if word == b"--why".as_slice() {
-            self.why = true;
-            return self;
-        }
-        if word == b"--utf8".as_slice() {
-            self.utf8 = true;
-            return self;
-        }
-        if (word == b"--help".as_slice()) | (word == b"-h".as_slice()) {
-            self.helps = true;
-            return self;
-        }
-        self.stopped(rt, b"no such option", word)
+    fn take_file(&mut self, i: usize) -> Result<(), &'static [u8]> {
+        let Some(name) = self.names.get_mut(self.files) else {
+            return Err(b"more than 17 runs");
+        };
+        *name = i;
+        self.files += 1;
+        Ok(())
     }
 
-    fn with_option(self, rt: &HostRuntime, i: usize, word: &[u8]) -> Choice {
-        if word == b"--from".as_slice() {
-            return self.with_lower(rt, true, i, word);
-        }
-        if word == b"--after".as_slice() {
-            return self.with_lower(rt, false, i, word);
-        }
-        if word == b"--to".as_slice() {
-            return self.with_upper(rt, true, i, word);
-        }
-        if word == b"--before".as_slice() {
-            return self.with_upper(rt, false, i, word);
-        }
-        self.with_flag(rt, word)
-    }
-
-    // With argument i, which is no key. A single - is a file's name.
-    fn with_word(self, rt: &HostRuntime, i: usize, word: &[u8]) -> Choice {
-        if word.len() == 0 {
-            return self.stopped(rt, b"an argument is empty", word);
-        }
-        if (word[0] == b'-') & (1 < word.len()) {
-            return self.with_option(rt, i, word);
-        }
-        self.with_file(rt, i, word)
-    }
-
-    fn with_argument(mut self, rt: &HostRuntime, i: usize) -> Choice {
+    // What the arguments ask for, or that they cannot be taken.
+    pub(crate) fn choose(&mut self, rt: &HostRuntime) -> Result<(), Said> {
+        choose(rt, b"offers", self)?;
         if self.takes {
-            self.takes = false;
-            return self;
-        }
-        let mut space = [0; ARGUMENT_ROOM];
-        match rt.arg(i, &mut space) {
-            Ok(n) => self.with_word(rt, i, part_of(&space, 0, n)),
-            Err(_) => self.stopped(
+            wrong(
                 rt,
-                b"an argument is longer than 4096 bytes",
-                part_of(&space, 0, 60),
-            ),
-        }
-    }
-
-    // The choice once all arguments were looked at.
-    fn ended(self, rt: &HostRuntime) -> Choice {
-        if self.takes {
-            return self.stopped(
-                rt,
+                b"offers",
                 b"a key is missing after the last option",
                 b"--from, --after, --to or --before",
             );
+            return Err(Said);
         }
-        if (self.files == 0) & self.fine & !self.helps {
-            let left = self.stopped(rt, b"no run is named", b"");
+        if (self.files == 0) & !self.helps {
+            wrong(rt, b"offers", b"no run is named", b"");
             usage_on(&rt.stderr());
-            return left;
+            return Err(Said);
         }
-        self
+        Ok(())
     }
 }
 
-pub(crate) fn chosen(rt: &HostRuntime) -> Choice {
-    let mut c = at_first();
-    for i in 1..argument_count(rt) {
-        c = c.with_argument(rt, i);
+impl Choice for Asked {
+    // A single - is a file's name.
+    fn take(&mut self, i: usize, word: Option<&[u8]>) -> Result<(), &'static [u8]> {
+        if self.takes {
+            self.takes = false;
+            return Ok(());
+        }
+        let word = word.ok_or(TOO_LONG)?;
+        match word {
+            [] => Err(b"an argument is empty"),
+            [b'-', _, ..] => self.take_option(i, word),
+            _ => self.take_file(i),
+        }
     }
-    c.ended(rt)
 }

@@ -1,43 +1,34 @@
 // The runs, read one behind the other into one buffer.
-use crate::choice::Choice;
-use desk::files::{Filled, read_file};
+use desk::files::{NotFilled, read_file};
 use desk::say;
+use desk::say::Said;
 use types::config::FILE_COUNT;
 
-fn read_run(rt: &HostRuntime, i: usize, room: &mut [u8], at: usize) -> Filled {
+// Reads the run that argument i names: where it ends.
+fn read_run(rt: &HostRuntime, i: usize, room: &mut [u8], at: usize) -> Result<usize, Said> {
     let most = room.len();
     let filled = read_file(rt, b"offers", i, room, at);
-    if let Filled::More = filled {
+    if let Err(NotFilled::More) = filled {
         say::text(rt, b"offers: more than ");
         say::number(rt, most);
         say::text(rt, b" bytes in all runs: ");
         say::argument(rt, i);
         say::text(rt, b"\n");
     }
-    filled
+    filled.map_err(|_| Said)
 }
 
-// Reads every run that was named, and answers whether all could be read.
+// Reads every run that was named: where each ends.
 pub(crate) fn read_all(
     rt: &HostRuntime,
-    c: Choice,
+    names: &[usize],
     room: &mut [u8],
     ends: &mut [usize; FILE_COUNT],
-) -> bool {
-    let names = c.names;
-    let files = c.files;
+) -> Result<(), Said> {
     let mut at = 0;
-    let mut k = 0;
-    while k < FILE_COUNT {
-        if files <= k {
-            return true;
-        }
-        let Filled::To(end) = read_run(rt, names[k], room, at) else {
-            return false;
-        };
-        at = end;
-        ends[k] = at;
-        k += 1;
+    for (name, end) in names.iter().zip(ends.iter_mut()) {
+        at = read_run(rt, *name, room, at)?;
+        *end = at;
     }
-    true
+    Ok(())
 }

@@ -10,31 +10,29 @@ mod line;
 mod listing;
 mod places;
 
-use choice::{Choice, chosen};
+use choice::Asked;
 use desk::say;
-use script::space::all_runs_space;
+use desk::say::Said;
+use places::Runs;
+use script::space::{ALL_RUNS_ROOM, space};
 use types::config::FILE_COUNT;
 
-// Lists, or says why not and answers false.
-fn list(rt: &HostRuntime, c: Choice) -> bool {
-    let mut runs = all_runs_space();
+fn list(rt: &HostRuntime, asked: &Asked) -> Result<(), Said> {
+    let mut bytes = space::<ALL_RUNS_ROOM>(0);
     let mut ends = [0; FILE_COUNT];
-    if files::read_all(rt, c, &mut runs, &mut ends) {
-        return listing::list(rt, c, &runs, ends);
-    }
-    false
+    files::read_all(rt, asked.runs(), &mut bytes, &mut ends)?;
+    let runs = Runs::first(&bytes, &ends, asked.runs().len());
+    listing::list(rt, asked, runs)
 }
 
 fn main(rt: HostRuntime) {
-    let c = chosen(&rt);
-    if c.helps {
+    let mut asked = Asked::nothing();
+    let chosen = asked.choose(&rt);
+    if asked.helps {
         help::say(&rt);
         return;
     }
-    if c.fine {
-        if list(&rt, c) {
-            return;
-        }
+    if let Err(Said) = chosen.and_then(|_| list(&rt, &asked)) {
+        say::list_failed(&rt);
     }
-    say::list_failed(&rt);
 }

@@ -1,4 +1,5 @@
 -- What a call knows of its page and of h after their checks. Assumes nothing.
+use Rattle.std.specs.Prelude.{Ok, Err}
 use mathlib.Core.Path.{◌≡◌, refl}
 use mathlib.Core.Bool.{Bool, true, false}
 use Prim.Native.Nat.{ℕ, ◌+◌, ◌%◌, ◌≤◌, ◌<◌}
@@ -9,7 +10,6 @@ use Rattle.types.specs.Checks.{asking}
 use Rattle.types.specs.declared.page_id.PageID.{PageID}
 use Rattle.types.specs.declared.refusal.Refusal.{Refusal}
 use Rattle.types.specs.declared.refusal.Refusal.TheVariants.{OutOfRange, BadFlash, BadHeader}
-use Rattle.types.specs.declared.refusal.Verdict.TheVariants.{Fine, Refused}
 use Rattle.types.proofs.CheckLaws.{asking-fine}
 use Rattle.types.proofs.TestLaws.{both_true}
 use Rattle.flash.specs.Geometry.{flash_fine, whole_pages, page_start, has_page}
@@ -22,13 +22,13 @@ use Rattle.page.specs.Headers.{header_fine, header_check}
 pub header-facts : (h : ℕ) → header_fine h ≡ true → (h % align ≡ 0) × (h ≤ max_header_size)
 header-facts h fine = let both = both_true _ _ fine in (eqb-true _ _ both.0, leb-true _ _ both.1)
 
-pub header-true : (h : ℕ) → header_check h ≡ Fine → header_fine h ≡ true
-header-true h fine = (asking-fine (header_fine h) BadHeader Fine fine).0
+pub header-true : (h : ℕ) → header_check h ≡ Ok tt → header_fine h ≡ true
+header-true h fine = (asking-fine (header_fine h) BadHeader (Ok tt) fine).0
 
-pub header-false : (h : ℕ) (why : Refusal) → header_check h ≡ Refused why → header_fine h ≡ false
+pub header-false : (h : ℕ) (why : Refusal) → header_check h ≡ Err why → header_fine h ≡ false
 header-false h why refused = by (header_fine h) refused
   where
-    by : (t : Bool) → asking t BadHeader Fine ≡ Refused why → t ≡ false
+    by : (t : Bool) → asking t BadHeader (Ok tt) ≡ Err why → t ≡ false
     by true e = let z : ◌≡◌ {A = ℕ} 0 1 = cc in absurd (omega arith)
     by false e = refl
 
@@ -56,12 +56,12 @@ pub record OpenChecked (n h : ℕ) (page : PageID) : Type 0 where
   pub small : h ≤ max_header_size
 
 -- fine where each of their tests holds
-pub open_check-fine : (n h : ℕ) (page : PageID) → flash_fine n ≡ true → header_fine h ≡ true → has_page n page.0 ≡ true → open_check n h page ≡ Fine
+pub open_check-fine : (n h : ℕ) (page : PageID) → flash_fine n ≡ true → header_fine h ≡ true → has_page n page.0 ≡ true → open_check n h page ≡ Ok tt
 unfolding open_check
 open_check-fine n h page shape header there = rw (shape, header, there)
 
 -- and what a call knows that has passed them
-pub open-checked : (n h : ℕ) (page : PageID) → open_check n h page ≡ Fine → OpenChecked n h page
+pub open-checked : (n h : ℕ) (page : PageID) → open_check n h page ≡ Ok tt → OpenChecked n h page
 unfolding open_check
 open-checked n h page fine =
     let a = asking-fine (flash_fine n) BadFlash _ fine in

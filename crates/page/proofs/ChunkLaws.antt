@@ -1,4 +1,6 @@
 -- One chunk: what its header's tests come to, and which bytes they look at. Assumes nothing.
+use Rattle.std.specs.Prelude.{Ok, Err, Some, None}
+use Rattle.types.specs.Checks.{corruption}
 use mathlib.Core.Path.{◌≡◌, refl, sym, ap, ◌∙◌}
 use mathlib.Core.Bool.{Bool, true, false, cond}
 use mathlib.Core.List.{List}
@@ -13,25 +15,24 @@ use Rattle.types.specs.Build.{page_size, chunk_header_size, max_chunk_size}
 use Rattle.types.proofs.TestLaws.{both_true, le-or-lt}
 use Rattle.crc.specs.Published.{published}
 use Rattle.slices.specs.Fields.{field}
-use Rattle.page.specs.Chunks.{chunk_magic, next_offset, chunk_of, chunk_at, payload_at, payload_fine, sum_checked, checked_at}
-use Rattle.page.specs.declared.chunk.Step.{Step}
-use Rattle.page.specs.declared.chunk.Step.TheVariants.{End, Corrupted, Chunk}
+use Rattle.page.specs.declared.chunk.ChunkAt.{ChunkAt}
+use Rattle.page.specs.Chunks.{chunk_magic, next_offset, chunk_of, chunk_at, payload_at, payload_fine, sum_checked, checked_at, Step, found_chunk}
 use Rattle.page.proofs.BelowLaws.{field_below, field-above, long-below, short-below, shorter-above}
 
 -- ---- from the tests to what stands at o
 
 module _ (page : List ℕ) (o : ℕ) where
-  pub chunk-past : page_size < o + chunk_header_size → chunk_at page o ≡ End
+  pub chunk-past : page_size < o + chunk_header_size → chunk_at page o ≡ Ok None
   unfolding chunk_at
   chunk-past h = rw (lt-ltb page_size (o + 8) h)
 
   -- a header that is not all there
-  pub chunk-short : length page < o + chunk_header_size → chunk_at page o ≡ End
+  pub chunk-short : length page < o + chunk_header_size → chunk_at page o ≡ Ok None
   unfolding chunk_at
   chunk-short h =
       ⊎_elim (λ room. rw (le-ltb page_size (o + 8) room, lt-ltb (length page) (o + 8) h)) chunk-past (le-or-lt (o + 8) page_size)
 
-  pub chunk-unmarked : (field 2 page o ≡ chunk_magic → ⊥) → chunk_at page o ≡ End
+  pub chunk-unmarked : (field 2 page o ≡ chunk_magic → ⊥) → chunk_at page o ≡ Ok None
   unfolding chunk_at
   chunk-unmarked n =
       ⊎_elim
@@ -45,22 +46,22 @@ module _ (page : List ℕ) (o : ℕ) where
     unfolding chunk_at
     chunk-marked = rw (le-ltb page_size (o + 8) room, le-ltb (length page) (o + 8) there, eq-eqb (field 2 page o) chunk_magic mark)
 
-    pub chunk-long : max_chunk_size < field 2 page (o + 2) → chunk_at page o ≡ Corrupted
+    pub chunk-long : max_chunk_size < field 2 page (o + 2) → chunk_at page o ≡ Err corruption
     chunk-long h = chunk-marked ∙ rw (lt-ltb max_chunk_size (field 2 page (o + 2)) h)
 
-    pub chunk-over : field 2 page (o + 2) ≤ max_chunk_size → page_size < o + chunk_header_size + field 2 page (o + 2) → chunk_at page o ≡ Corrupted
+    pub chunk-over : field 2 page (o + 2) ≤ max_chunk_size → page_size < o + chunk_header_size + field 2 page (o + 2) → chunk_at page o ≡ Err corruption
     chunk-over small h = chunk-marked ∙ rw (le-ltb max_chunk_size (field 2 page (o + 2)) small, lt-ltb page_size (o + 8 + field 2 page (o + 2)) h)
 
     -- a payload that is not all there
     pub chunk_missing : field 2 page (o + 2) ≤ max_chunk_size → o + chunk_header_size + field 2 page (o + 2) ≤ page_size
-        → length page < o + chunk_header_size + field 2 page (o + 2) → chunk_at page o ≡ Corrupted
+        → length page < o + chunk_header_size + field 2 page (o + 2) → chunk_at page o ≡ Err corruption
     chunk_missing small fits missing =
         let l = field 2 page (o + 2) in
         chunk-marked ∙ rw (le-ltb max_chunk_size l small, le-ltb page_size (o + 8 + l) fits, lt-ltb (length page) (o + 8 + l) missing)
 
     pub chunk_whole : field 2 page (o + 2) ≤ max_chunk_size → o + chunk_header_size + field 2 page (o + 2) ≤ page_size
         → o + chunk_header_size + field 2 page (o + 2) ≤ length page
-        → chunk_at page o ≡ Chunk (field 2 page (o + 2)) (field 4 page (o + 4)) (next_offset o (field 2 page (o + 2)))
+        → chunk_at page o ≡ found_chunk (field 2 page (o + 2)) (field 4 page (o + 4)) (next_offset o (field 2 page (o + 2)))
     chunk_whole small fits whole =
         let l = field 2 page (o + 2) in
         chunk-marked ∙ rw (le-ltb max_chunk_size l small, le-ltb page_size (o + 8 + l) fits, le-ltb (length page) (o + 8 + l) whole)
@@ -77,8 +78,15 @@ pub record Found (page : List ℕ) (o len crc next : ℕ) : Type 0 where
   pub fits : o + chunk_header_size + len ≤ page_size
   pub after : next ≡ next_offset o len
 
+-- two chunks that are found are one chunk
+chunk-same : (a b c len crc next : ℕ)
+    → found_chunk a b c ≡ found_chunk len crc next
+    → ◌≡◌ {A = ChunkAt} (record { len = a; crc = b; next = c }) (record { len = len; crc = crc; next = next })
+chunk-same a b c len crc next e = cc
+
 passed : (past short marked long over missing : Bool) (a b c len crc next : ℕ)
-    → cond past End (cond short End (cond marked (cond long Corrupted (cond over Corrupted (cond missing Corrupted (Chunk a b c)))) End)) ≡ Chunk len crc next
+    → cond past (Ok None) (cond short (Ok None) (cond marked (cond long (Err corruption) (cond over (Err corruption) (cond missing (Err corruption) (found_chunk a b c)))) (Ok None)))
+    ≡ found_chunk len crc next
     → ((missing ≡ false) × ((marked ≡ true) × ((long ≡ false) × (over ≡ false)))) × ((a ≡ len) × ((b ≡ crc) × (c ≡ next)))
 passed true short marked long over missing a b c len crc next e = let z : ◌≡◌ {A = ℕ} 0 1 = cc in absurd (omega arith)
 passed false true marked long over missing a b c len crc next e = let z : ◌≡◌ {A = ℕ} 0 1 = cc in absurd (omega arith)
@@ -86,9 +94,11 @@ passed false false false long over missing a b c len crc next e = let z : ◌≡
 passed false false true true over missing a b c len crc next e = let z : ◌≡◌ {A = ℕ} 0 1 = cc in absurd (omega arith)
 passed false false true false true missing a b c len crc next e = let z : ◌≡◌ {A = ℕ} 0 1 = cc in absurd (omega arith)
 passed false false true false false true a b c len crc next e = let z : ◌≡◌ {A = ℕ} 0 1 = cc in absurd (omega arith)
-passed false false true false false false a b c len crc next e = ((refl, (refl, (refl, refl))), (cc, (cc, cc)))
+passed false false true false false false a b c len crc next e =
+    let same = chunk-same a b c len crc next e in
+    ((refl, (refl, (refl, refl))), (ap (λ (x : ChunkAt). x.len) same, (ap (λ (x : ChunkAt). x.crc) same, ap (λ (x : ChunkAt). x.next) same)))
 
-pub chunk-found : (page : List ℕ) (o len crc next : ℕ) → chunk_at page o ≡ Chunk len crc next → Found page o len crc next
+pub chunk-found : (page : List ℕ) (o len crc next : ℕ) → chunk_at page o ≡ found_chunk len crc next → Found page o len crc next
 unfolding chunk_at
 chunk-found page o len crc next e =
     let l = field 2 page (o + 2) in
@@ -108,7 +118,7 @@ chunk-found page o len crc next e =
     }
 
 -- the next offset is at or past the chunk's end, and within the page
-pub next_up : (page : List ℕ) (o len crc next : ℕ) → chunk_at page o ≡ Chunk len crc next → (o + chunk_header_size + len ≤ next) × (next ≤ page_size)
+pub next_up : (page : List ℕ) (o len crc next : ℕ) → chunk_at page o ≡ found_chunk len crc next → (o + chunk_header_size + len ≤ next) × (next ≤ page_size)
 next_up page o len crc next e =
     let f = chunk-found page o len crc next e in
     let fits : o + 8 + len ≤ page_size = f.fits in
@@ -118,8 +128,8 @@ next_up page o len crc next e =
 -- ---- which bytes count
 
 -- a chunk's own bytes alone
-pub chunk-below : (o len crc next e : ℕ) (p q : List ℕ) → chunk_at p o ≡ Chunk len crc next → o + chunk_header_size + len ≤ e → take e q ≡ take e p
-    → chunk_at q o ≡ Chunk len crc next
+pub chunk-below : (o len crc next e : ℕ) (p q : List ℕ) → chunk_at p o ≡ found_chunk len crc next → o + chunk_header_size + len ≤ e → take e q ≡ take e p
+    → chunk_at q o ≡ found_chunk len crc next
 chunk-below o len crc next e p q c h a =
     let f = chunk-found p o len crc next c in
     let mark : field 2 q o ≡ chunk_magic = field_below 2 o e p q (omega arith) a ∙ f.mark in
@@ -130,7 +140,7 @@ chunk-below o len crc next e p q c h a =
     chunk_whole q o (omega arith) (omega arith) mark (rw long f.small) (rw long f.fits) (rw long whole) ∙ rw (long, sum, f.after)
 
 -- of an end the header's eight
-pub end_below : (o e : ℕ) (p q : List ℕ) → chunk_at p o ≡ End → o + chunk_header_size ≤ e → take e q ≡ take e p → chunk_at q o ≡ End
+pub end_below : (o e : ℕ) (p q : List ℕ) → chunk_at p o ≡ Ok None → o + chunk_header_size ≤ e → take e q ≡ take e p → chunk_at q o ≡ Ok None
 end_below o e p q c h a =
     ⊎_elim
     (λ (room : o + 8 ≤ page_size).
@@ -144,7 +154,7 @@ end_below o e p q c h a =
     (le-or-lt (o + 8) page_size)
   where
     -- where a header is there and marked, what it says is no end
-    no_end : (long over missing : Bool) (a b c : ℕ) → cond long Corrupted (cond over Corrupted (cond missing Corrupted (Chunk a b c))) ≡ End → ⊥
+    no_end : (long over missing : Bool) (a b c : ℕ) → cond long (Err corruption) (cond over (Err corruption) (cond missing (Err corruption) (found_chunk a b c))) ≡ Ok None → ⊥
     no_end true over missing a b c e = let z : ◌≡◌ {A = ℕ} 0 1 = cc in omega arith
     no_end false true missing a b c e = let z : ◌≡◌ {A = ℕ} 0 1 = cc in omega arith
     no_end false false true a b c e = let z : ◌≡◌ {A = ℕ} 0 1 = cc in omega arith
@@ -166,19 +176,19 @@ chunk-above s o p q h a =
 
 -- ---- the sum
 
-pub checked-end : (page : List ℕ) (o : ℕ) → chunk_at page o ≡ End → checked_at page o ≡ End
+pub checked-end : (page : List ℕ) (o : ℕ) → chunk_at page o ≡ Ok None → checked_at page o ≡ Ok None
 unfolding checked_at
 checked-end page o e = rw e
 
-pub checked-bad : (page : List ℕ) (o : ℕ) → chunk_at page o ≡ Corrupted → checked_at page o ≡ Corrupted
+pub checked-bad : (page : List ℕ) (o : ℕ) → chunk_at page o ≡ Err corruption → checked_at page o ≡ Err corruption
 unfolding checked_at
 checked-bad page o e = rw e
 
-pub checked-right : (page : List ℕ) (o len crc next : ℕ) → chunk_at page o ≡ Chunk len crc next → payload_fine page o len crc ≡ true → checked_at page o ≡ Chunk len crc next
+pub checked-right : (page : List ℕ) (o len crc next : ℕ) → chunk_at page o ≡ found_chunk len crc next → payload_fine page o len crc ≡ true → checked_at page o ≡ found_chunk len crc next
 unfolding checked_at
 checked-right page o len crc next e s = rw e (rw s)
 
-pub checked-wrong : (page : List ℕ) (o len crc next : ℕ) → chunk_at page o ≡ Chunk len crc next → payload_fine page o len crc ≡ false → checked_at page o ≡ Corrupted
+pub checked-wrong : (page : List ℕ) (o len crc next : ℕ) → chunk_at page o ≡ found_chunk len crc next → payload_fine page o len crc ≡ false → checked_at page o ≡ Err corruption
 unfolding checked_at
 checked-wrong page o len crc next e s = rw e (rw s)
 
@@ -200,26 +210,27 @@ payload-fine page o l is =
     rw (eq-eqb (length there) (length l) (ap length is), eq-eqb (published there) (published l) (ap published is))
 
 -- a chunk that passes has a good header and a payload that is fine
-pub checked-fine : (page : List ℕ) (o len crc next : ℕ) → checked_at page o ≡ Chunk len crc next
-    → (chunk_at page o ≡ Chunk len crc next) × (payload_fine page o len crc ≡ true)
+pub checked-fine : (page : List ℕ) (o len crc next : ℕ) → checked_at page o ≡ found_chunk len crc next
+    → (chunk_at page o ≡ found_chunk len crc next) × (payload_fine page o len crc ≡ true)
 unfolding checked_at
 checked-fine page o len crc next e = by (chunk_at page o) e
   where
-    right : (a b c : ℕ) (t : Bool) → payload_fine page o a b ≡ t → cond t (Chunk a b c) Corrupted ≡ Chunk len crc next
-        → (Chunk a b c ≡ Chunk len crc next) × (payload_fine page o len crc ≡ true)
+    right : (a b c : ℕ) (t : Bool) → payload_fine page o a b ≡ t → cond t (found_chunk a b c) (Err corruption) ≡ found_chunk len crc next
+        → (found_chunk a b c ≡ found_chunk len crc next) × (payload_fine page o len crc ≡ true)
     right a b c true t e =
-        let f : a ≡ len = cc in
-        let g : b ≡ crc = cc in
+        let same = chunk-same a b c len crc next e in
+        let f : a ≡ len = ap (λ (x : ChunkAt). x.len) same in
+        let g : b ≡ crc = ap (λ (x : ChunkAt). x.crc) same in
         (e, rw (f, g) at t)
     right a b c false t e = let z : ◌≡◌ {A = ℕ} 0 1 = cc in absurd (omega arith)
 
-    by : (s : Step) → sum_checked page o s ≡ Chunk len crc next → (s ≡ Chunk len crc next) × (payload_fine page o len crc ≡ true)
-    by End e = let z : ◌≡◌ {A = ℕ} 0 1 = cc in absurd (omega arith)
-    by Corrupted e = let z : ◌≡◌ {A = ℕ} 0 1 = cc in absurd (omega arith)
-    by (Chunk a b c) e = right a b c (payload_fine page o a b) refl e
+    by : (s : Step) → sum_checked page o s ≡ found_chunk len crc next → (s ≡ found_chunk len crc next) × (payload_fine page o len crc ≡ true)
+    by (Ok None) e = let z : ◌≡◌ {A = ℕ} 0 1 = cc in absurd (omega arith)
+    by (Err w) e = let z : ◌≡◌ {A = ℕ} 0 1 = cc in absurd (omega arith)
+    by (Ok (Some chunk)) e = right chunk.len chunk.crc chunk.next (payload_fine page o chunk.len chunk.crc) refl e
 
-pub checked-found : (page : List ℕ) (o len crc next : ℕ) → checked_at page o ≡ Chunk len crc next
-    → (chunk_at page o ≡ Chunk len crc next) × (published (payload_at page o len) ≡ crc)
+pub checked-found : (page : List ℕ) (o len crc next : ℕ) → checked_at page o ≡ found_chunk len crc next
+    → (chunk_at page o ≡ found_chunk len crc next) × (published (payload_at page o len) ≡ crc)
 checked-found page o len crc next e =
     let f = checked-fine page o len crc next e in
     (f.0, fine-sum page o len crc f.1)

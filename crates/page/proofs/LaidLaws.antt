@@ -1,4 +1,7 @@
 -- How a walk's chunks lie on the page: one behind the other, each whole, no more than fit. Assumes nothing.
+use Rattle.std.specs.Prelude.{Ok, Err, None}
+use Rattle.std.specs.declared.result.Result.{Result}
+use Rattle.types.specs.declared.refusal.Corrupted.{Corrupted}
 use mathlib.Core.Path.{◌≡◌, refl, sym, subst}
 use mathlib.Core.List.{List, [], ◌∷◌}
 use Prim.Native.Nat.{ℕ, ◌+◌, ◌*◌, ◌%◌, ◌≤◌}
@@ -7,9 +10,6 @@ use lib.ListN.{length}
 use Rattle.types.specs.Build.{page_size, align, page_header_size, max_header_size, chunk_header_size, max_chunk_size}
 use Rattle.page.specs.Chunks.{next_offset, chunk_at}
 use Rattle.page.specs.Walks.{Chunk, walk_from}
-use Rattle.page.specs.declared.chunk.Step.TheVariants as step
-use Rattle.page.specs.declared.walk.Ending.{Ending}
-use Rattle.page.specs.declared.walk.Ending.TheVariants.{EndAt, Corrupted}
 use Rattle.page.proofs.ChunkLaws.{chunk-found}
 use Rattle.page.proofs.WalkLaws.{walk-rule}
 
@@ -80,9 +80,9 @@ walk-laid page =
     (refl, (f.small, (f.fits, subst (λ (n : ℕ). Laid n (walk_from page next).chunks) f.after l))))
 
 -- where a walk ends, behind its last chunk
-abbrev EndsAt : Ending → ℕ → Type 0
-EndsAt (EndAt e) at = e ≡ at
-EndsAt Corrupted at = Unit
+abbrev EndsAt : Result ℕ Corrupted → ℕ → Type 0
+EndsAt (Ok e) at = e ≡ at
+EndsAt (Err w) at = Unit
 
 ends_at : (page : List ℕ) (o : ℕ) → EndsAt (walk_from page o).ending (end_of o (walk_from page o).chunks)
 ends_at page =
@@ -90,24 +90,24 @@ ends_at page =
     (λ o len crc next e l.
     subst (λ (n : ℕ). EndsAt (walk_from page next).ending (end_of n (walk_from page next).chunks)) (chunk-found page o len crc next e).after l)
 
-pub walk-ends-at : (page : List ℕ) (o e : ℕ) → (walk_from page o).ending ≡ EndAt e → end_of o (walk_from page o).chunks ≡ e
+pub walk-ends-at : (page : List ℕ) (o e : ℕ) → (walk_from page o).ending ≡ Ok e → end_of o (walk_from page o).chunks ≡ e
 walk-ends-at page o e h = sym (rw h at (ends_at page o))
 
 -- the end of a walk: no chunk stands there, it is not below the start, and the start's limits hold
 pub record Ended (page : List ℕ) (o e : ℕ) : Type 0 where
-  pub none : chunk_at page e ≡ step.End
+  pub none : chunk_at page e ≡ Ok None
   pub up : o ≤ e
   pub within : o ≤ page_size → e ≤ page_size
   pub group : o % align ≡ 0 → e % align ≡ 0
 
-abbrev NoneAt : List ℕ → Ending → Type 0
-NoneAt page (EndAt e) = chunk_at page e ≡ step.End
-NoneAt page Corrupted = Unit
+abbrev NoneAt : List ℕ → Result ℕ Corrupted → Type 0
+NoneAt page (Ok e) = chunk_at page e ≡ Ok None
+NoneAt page (Err w) = Unit
 
 none-at : (page : List ℕ) (o : ℕ) → NoneAt page (walk_from page o).ending
 none-at page = walk-rule page (λ o w. NoneAt page w.ending) (λ o e. e) (λ o e. tt) (λ o len crc next e l. l)
 
-pub walk-ended : (page : List ℕ) (o e : ℕ) → (walk_from page o).ending ≡ EndAt e → Ended page o e
+pub walk-ended : (page : List ℕ) (o e : ℕ) → (walk_from page o).ending ≡ Ok e → Ended page o e
 walk-ended page o e h =
     let cs = (walk_from page o).chunks in
     let at : end_of o cs ≡ e = walk-ends-at page o e h in

@@ -1,3 +1,4 @@
+pub mod AnswerLaws
 pub mod BelowLaws
 pub mod CheckLaws
 pub mod ChunkLaws

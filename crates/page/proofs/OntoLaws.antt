@@ -1,5 +1,7 @@
 -- Two pages that agree below the end of one's walk: the other has the same chunks, followed by what stands at that end. So an
 -- addition behind the chunks, whole or cut short, loses none of them. Assumes nothing.
+use Rattle.std.specs.Prelude.{Ok, Err, None}
+use Rattle.types.specs.Checks.{corruption}
 use mathlib.Core.Path.{◌≡◌, ap, ◌∙◌}
 use mathlib.Core.List.{List, [], ◌∷◌, ◌++◌, append-nil}
 use Prim.Native.Nat.{ℕ, ◌+◌, ◌≤◌}
@@ -8,10 +10,8 @@ use lib.ListN.{take, drop}
 use Rattle.types.specs.Build.{chunk_header_size}
 use Rattle.slices.specs.Patch.{patch}
 use Rattle.slices.proofs.PatchLaws.{take-patch-below}
-use Rattle.page.specs.Chunks.{chunk_at, payload_at, payload_fine, checked_at}
+use Rattle.page.specs.Chunks.{chunk_at, payload_at, payload_fine, checked_at, found_chunk}
 use Rattle.page.specs.Walks.{Chunk, Walked, walk_from}
-use Rattle.page.specs.declared.chunk.Step.TheVariants as step
-use Rattle.page.specs.declared.walk.Ending.TheVariants.{EndAt, Corrupted}
 use Rattle.page.proofs.BelowLaws.{part-below}
 use Rattle.page.proofs.ChunkLaws.{next_up, chunk-below, chunk-above}
 use Rattle.page.proofs.WalkLaws.{walk-end, walk-bad, walk-chunk, walk-rule}
@@ -22,9 +22,9 @@ abbrev pub joined : List Chunk → Walked → Walked
 joined cs w = record { chunks = cs ++ w.chunks; ending = w.ending }
 
 module _ (p q : List ℕ) where
-  pub walk-onto : (o e : ℕ) → (walk_from p o).ending ≡ EndAt e → take e q ≡ take e p → walk_from q o ≡ joined (walk_from p o).chunks (walk_from q e)
+  pub walk-onto : (o e : ℕ) → (walk_from p o).ending ≡ Ok e → take e q ≡ take e p → walk_from q o ≡ joined (walk_from p o).chunks (walk_from q e)
   walk-onto o e h a =
-      walk-rule p (λ o w. w.ending ≡ EndAt e → walk_from q o ≡ joined w.chunks (walk_from q e))
+      walk-rule p (λ o w. w.ending ≡ Ok e → walk_from q o ≡ joined w.chunks (walk_from q e))
       (λ o s h. let f : o ≡ e = cc in ap (walk_from q) f)
       (λ o s h. let z : ◌≡◌ {A = ℕ} 0 1 = cc in absurd (omega arith))
       (λ o len crc next s rest h.
@@ -34,18 +34,18 @@ module _ (p q : List ℕ) where
       o h
 
   -- nothing stands at the end: the walk is the same
-  pub walk_kept : (o e : ℕ) → (walk_from p o).ending ≡ EndAt e → take e q ≡ take e p → chunk_at q e ≡ step.End → walk_from q o ≡ walk_from p o
+  pub walk_kept : (o e : ℕ) → (walk_from p o).ending ≡ Ok e → take e q ≡ take e p → chunk_at q e ≡ Ok None → walk_from q o ≡ walk_from p o
   walk_kept o e h a s = walk-onto o e h a ∙ rw (walk-end q e s, append-nil, ← h)
 
   -- one chunk more stands there
-  pub walk-added : (o e len crc next : ℕ) → (walk_from p o).ending ≡ EndAt e → take e q ≡ take e p
-      → chunk_at q e ≡ step.Chunk len crc next → chunk_at q next ≡ step.End
-      → walk_from q o ≡ record { chunks = (walk_from p o).chunks ++ (record { offset = e; len = len; crc = crc } ∷ []); ending = EndAt next }
+  pub walk-added : (o e len crc next : ℕ) → (walk_from p o).ending ≡ Ok e → take e q ≡ take e p
+      → chunk_at q e ≡ found_chunk len crc next → chunk_at q next ≡ Ok None
+      → walk_from q o ≡ record { chunks = (walk_from p o).chunks ++ (record { offset = e; len = len; crc = crc } ∷ []); ending = Ok next }
   walk-added o e len crc next h a s t = walk-onto o e h a ∙ rw (walk-chunk q e len crc next s, walk-end q next t)
 
   -- a chunk stands there that cannot be
-  pub walk-spoilt : (o e : ℕ) → (walk_from p o).ending ≡ EndAt e → take e q ≡ take e p → chunk_at q e ≡ step.Corrupted
-      → walk_from q o ≡ record { chunks = (walk_from p o).chunks; ending = Corrupted }
+  pub walk-spoilt : (o e : ℕ) → (walk_from p o).ending ≡ Ok e → take e q ≡ take e p → chunk_at q e ≡ Err corruption
+      → walk_from q o ≡ record { chunks = (walk_from p o).chunks; ending = Err corruption }
   walk-spoilt o e h a s = walk-onto o e h a ∙ rw (walk-bad q e s, append-nil)
 
   -- nothing before the start counts
@@ -60,7 +60,7 @@ module _ (p q : List ℕ) where
 
 -- ---- the same with a patch
 
-pub walk-patched : (page : List ℕ) (o e at : ℕ) (bytes : List ℕ) → (walk_from page o).ending ≡ EndAt e → e ≤ at
+pub walk-patched : (page : List ℕ) (o e at : ℕ) (bytes : List ℕ) → (walk_from page o).ending ≡ Ok e → e ≤ at
     → walk_from (patch at bytes page) o ≡ joined (walk_from page o).chunks (walk_from (patch at bytes page) e)
 walk-patched page o e at bytes h k = walk-onto page (patch at bytes page) o e h (take-patch-below e at bytes page k)
 
@@ -74,7 +74,7 @@ pub fine-below : (o len crc e : ℕ) (p q : List ℕ) → o + chunk_header_size 
 fine-below o len crc e p q h a = rw (payload-below o len e p q h a)
 
 -- a chunk's check looks at its own bytes alone
-pub checked-below : (o len crc next e : ℕ) (p q : List ℕ) → chunk_at p o ≡ step.Chunk len crc next → o + chunk_header_size + len ≤ e → take e q ≡ take e p
+pub checked-below : (o len crc next e : ℕ) (p q : List ℕ) → chunk_at p o ≡ found_chunk len crc next → o + chunk_header_size + len ≤ e → take e q ≡ take e p
     → checked_at q o ≡ checked_at p o
 unfolding checked_at
 checked-below o len crc next e p q s h a =

@@ -17,9 +17,8 @@ use Rattle.crc.proofs.SumLaws.{published-fits}
 use Rattle.slices.specs.Fields.{field}
 use Rattle.slices.specs.Patch.{patch}
 use Rattle.slices.proofs.PatchLaws.{length-patch, part-patch, drop-patch-above, patch-join}
-use Rattle.page.specs.Chunks.{chunk_magic, next_offset, chunk_header, chunk_at, payload_at, checked_at}
+use Rattle.page.specs.Chunks.{chunk_magic, next_offset, chunk_header, chunk_at, payload_at, checked_at, found_chunk}
 use Rattle.page.specs.Headers.{page_header, header_of, page_header_fine}
-use Rattle.page.specs.declared.chunk.Step.TheVariants.{Chunk}
 use Rattle.page.proofs.BelowLaws.{part-take}
 use Rattle.page.proofs.ChunkLaws.{chunk_whole, sum-fine, checked-right}
 use Rattle.page.proofs.HeaderLaws.{header-sum}
@@ -78,7 +77,7 @@ module _ (page : List ℕ) (o len crc : ℕ) (room : o + chunk_header_size ≤ l
 
   -- the header of a chunk that fits: the walk finds it
   pub chunk-put : len ≤ max_chunk_size → o + chunk_header_size + len ≤ page_size → o + chunk_header_size + len ≤ length page → crc < 2 ^ 32
-      → chunk_at (patch o (chunk_header len crc) page) o ≡ Chunk len crc (next_offset o len)
+      → chunk_at (patch o (chunk_header len crc) page) o ≡ found_chunk len crc (next_offset o len)
   chunk-put small fits whole sum =
       let put = patch o (chunk_header len crc) page in
       let l : field 2 put (o + 2) ≡ len = put-len (omega arith) in
@@ -90,7 +89,7 @@ module _ (page : List ℕ) (o len crc : ℕ) (room : o + chunk_header_size ≤ l
 
 -- a reader takes a chunk whose header has the sum of what stands behind it
 pub checked-put : (page : List ℕ) (o len : ℕ) → o + chunk_header_size + len ≤ length page → len ≤ max_chunk_size → o + chunk_header_size + len ≤ page_size
-    → checked_at (patch o (chunk_header len (published (payload_at page o len))) page) o ≡ Chunk len (published (payload_at page o len)) (next_offset o len)
+    → checked_at (patch o (chunk_header len (published (payload_at page o len))) page) o ≡ found_chunk len (published (payload_at page o len)) (next_offset o len)
 checked-put page o len there small fits =
     let sum = published (payload_at page o len) in
     let room : o + 8 ≤ length page = omega arith in

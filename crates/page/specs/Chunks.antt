@@ -1,12 +1,23 @@
 -- A chunk: mark u16, length u16, the sum of the payload, then the payload and padding to a multiple of 4
 -- (docs/FORMAT.md, Pages). Assumes nothing.
-use Rattle.std.specs.Prelude.{Bool, cond, ◌&&◌, List, ◌++◌, ℕ, ◌+◌, ◌-◌, ◌*◌, ◌/◌, eqb, ltb, length, take, drop}
+use Rattle.std.specs.declared.option.Option.{Option}
+use Rattle.std.specs.declared.result.Result.{Result}
+use Rattle.types.specs.declared.refusal.Corrupted.{Corrupted}
+use Rattle.page.specs.declared.chunk.ChunkAt.{ChunkAt}
+use Rattle.types.specs.Checks.{corruption}
+use Rattle.std.specs.Prelude.{Bool, cond, ◌&&◌, List, ◌++◌, ℕ, ◌+◌, ◌-◌, ◌*◌, ◌/◌, eqb, ltb, length, take, drop, Ok, Err, Some, None}
 use Rattle.types.specs.Build.{page_size, align, chunk_header_size, max_chunk_size}
 use Rattle.types.specs.Bytes.{bytes_of}
 use Rattle.crc.specs.Published.{published}
 use Rattle.slices.specs.Fields.{field}
-use Rattle.page.specs.declared.chunk.Step.{Step}
-use Rattle.page.specs.declared.chunk.Step.TheVariants.{End, Corrupted, Chunk}
+
+-- a chunk, none where the chunks end, or a refusal
+abbrev pub Step : Type 0
+Step = Result (Option ChunkAt) Corrupted
+
+-- a chunk of len bytes with this sum, and where the next one starts
+abbrev pub found_chunk : ℕ → ℕ → ℕ → Step
+found_chunk len crc next = Ok (Some (record { len = len; crc = crc; next = next }))
 
 -- the mark of a chunk
 abbrev pub chunk_magic : ℕ
@@ -27,16 +38,16 @@ next_offset o len = align_up (o + chunk_header_size + len)
 -- a chunk at o whose header says len: it is too long, passes the page's end or the bytes that are there, or is one
 abbrev pub chunk_of : List ℕ → ℕ → ℕ → ℕ → Step
 chunk_of page o len crc =
-    cond (ltb max_chunk_size len) Corrupted
-    (cond (ltb page_size (o + chunk_header_size + len)) Corrupted
-    (cond (ltb (length page) (o + chunk_header_size + len)) Corrupted (Chunk len crc (next_offset o len))))
+    cond (ltb max_chunk_size len) (Err corruption)
+    (cond (ltb page_size (o + chunk_header_size + len)) (Err corruption)
+    (cond (ltb (length page) (o + chunk_header_size + len)) (Err corruption) (found_chunk len crc (next_offset o len))))
 
 -- what the walk finds at o: no room for a header, bytes too few for one, and a wrong mark are the end
 unfoldable pub chunk_at : List ℕ → ℕ → Step
 chunk_at page o =
-    cond (ltb page_size (o + chunk_header_size)) End
-    (cond (ltb (length page) (o + chunk_header_size)) End
-    (cond (eqb (field 2 page o) chunk_magic) (chunk_of page o (field 2 page (o + 2)) (field 4 page (o + 4))) End))
+    cond (ltb page_size (o + chunk_header_size)) (Ok None)
+    (cond (ltb (length page) (o + chunk_header_size)) (Ok None)
+    (cond (eqb (field 2 page o) chunk_magic) (chunk_of page o (field 2 page (o + 2)) (field 4 page (o + 4))) (Ok None)))
 
 -- the payload of a chunk at o with len bytes
 abbrev pub payload_at : List ℕ → ℕ → ℕ → List ℕ
@@ -48,9 +59,9 @@ payload_fine page o len crc = eqb (length (payload_at page o len)) len && eqb (p
 
 -- a chunk whose payload is not all there, or whose sum is wrong, is corrupted
 abbrev pub sum_checked : List ℕ → ℕ → Step → Step
-sum_checked page o End = End
-sum_checked page o Corrupted = Corrupted
-sum_checked page o (Chunk len crc next) = cond (payload_fine page o len crc) (Chunk len crc next) Corrupted
+sum_checked page o (Ok None) = Ok None
+sum_checked page o (Err w) = Err corruption
+sum_checked page o (Ok (Some chunk)) = cond (payload_fine page o chunk.len chunk.crc) (Ok (Some chunk)) (Err corruption)
 
 -- what a reader finds at o: the header is checked, then the sum
 unfoldable pub checked_at : List ℕ → ℕ → Step

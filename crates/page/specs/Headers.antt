@@ -1,12 +1,10 @@
 -- The page header: magic u32, page number u32, the sum of the h bytes, then those bytes (docs/FORMAT.md, Pages).
 -- Assumes nothing.
-use Rattle.std.specs.Prelude.{Bool, ◌&&◌, List, ◌++◌, ℕ, ◌%◌, eqb, leb, length, take, drop}
+use Rattle.std.specs.Prelude.{Bool, ◌&&◌, List, ◌++◌, ℕ, ◌%◌, eqb, leb, length, take, drop, Ok}
 use Rattle.types.specs.Build.{align, page_header_size, max_header_size}
 use Rattle.types.specs.Bytes.{bytes_of}
-use Rattle.types.specs.Checks.{asking}
+use Rattle.types.specs.Checks.{asking, Verdict}
 use Rattle.types.specs.declared.refusal.Refusal.TheVariants.{BadHeader}
-use Rattle.types.specs.declared.refusal.Verdict.{Verdict}
-use Rattle.types.specs.declared.refusal.Verdict.TheVariants.{Fine}
 use Rattle.crc.specs.Published.{published}
 use Rattle.slices.specs.Fields.{field}
 
@@ -16,7 +14,7 @@ header_fine h = eqb (h % align) 0 && leb h max_header_size
 
 -- h is fine, or it is 6
 abbrev pub header_check : ℕ → Verdict
-header_check h = asking (header_fine h) BadHeader Fine
+header_check h = asking (header_fine h) BadHeader (Ok tt)
 
 -- the header of page p with the higher header's bytes
 unfoldable pub page_header : ℕ → ℕ → List ℕ → List ℕ

@@ -1,12 +1,11 @@
 -- The walk over a page's chunks (docs/FORMAT.md, The walk): the whole list of them, and where it ends or that it is
 -- refused. Assumes nothing.
-use Rattle.std.specs.Prelude.{Bool, true, ◌&&◌, List, [], ◌∷◌, ℕ, zero, suc, ◌/◌, eqb}
+use Rattle.types.specs.Checks.{corruption}
+use Rattle.std.specs.declared.result.Result.{Result}
+use Rattle.types.specs.declared.refusal.Corrupted.{Corrupted}
+use Rattle.std.specs.Prelude.{Bool, true, ◌&&◌, List, [], ◌∷◌, ℕ, zero, suc, ◌/◌, eqb, Ok, Err, Some, None}
 use Rattle.types.specs.Build.{page_size, chunk_header_size}
-use Rattle.page.specs.Chunks.{chunk_at}
-use Rattle.page.specs.declared.chunk.Step.{Step}
-use Rattle.page.specs.declared.chunk.Step.TheVariants as step
-use Rattle.page.specs.declared.walk.Ending.{Ending}
-use Rattle.page.specs.declared.walk.Ending.TheVariants.{EndAt, Corrupted}
+use Rattle.page.specs.Chunks.{chunk_at, Step}
 
 -- a chunk where it lies
 pub record Chunk : Type 0 where
@@ -17,18 +16,18 @@ pub record Chunk : Type 0 where
 -- the chunks of a walk, and how it ends
 pub record Walked : Type 0 where
   pub chunks : List Chunk
-  pub ending : Ending
+  pub ending : Result ℕ Corrupted
 
 -- what was found at o, and the rest of the walk
 abbrev pub walk_after : (ℕ → Walked) → ℕ → Step → Walked
-walk_after rest o step.End = record { chunks = []; ending = EndAt o }
-walk_after rest o step.Corrupted = record { chunks = []; ending = Corrupted }
-walk_after rest o (step.Chunk len crc next) =
-    record { chunks = record { offset = o; len = len; crc = crc } ∷ (rest next).chunks; ending = (rest next).ending }
+walk_after rest o (Ok None) = record { chunks = []; ending = Ok o }
+walk_after rest o (Err w) = record { chunks = []; ending = Err corruption }
+walk_after rest o (Ok (Some chunk)) =
+    record { chunks = record { offset = o; len = chunk.len; crc = chunk.crc } ∷ (rest chunk.next).chunks; ending = (rest chunk.next).ending }
 
 -- the walk from o, over at most n steps
 unfoldable pub walk : ℕ → List ℕ → ℕ → Walked
-walk zero page o = record { chunks = []; ending = EndAt o }
+walk zero page o = record { chunks = []; ending = Ok o }
 walk (suc n) page o = walk_after (walk n page) o (chunk_at page o)
 
 -- the walk from o to its end: every chunk takes at least its header, so no page has room for more steps
@@ -36,7 +35,7 @@ unfoldable pub walk_from : List ℕ → ℕ → Walked
 walk_from page o = walk (suc (page_size / chunk_header_size)) page o
 
 -- where it ends
-abbrev pub walk_end : List ℕ → ℕ → Ending
+abbrev pub walk_end : List ℕ → ℕ → Result ℕ Corrupted
 walk_end page o = (walk_from page o).ending
 
 -- whether every byte reads as erased, where e is the erase value

@@ -5,28 +5,25 @@ ghost use Rattle.page.specs.Checks.{page_check, open_check};
 use crate::header::check_header;
 use flash::geometry::{check_flash, has_page};
 use types::page_id::PageID;
-use types::refusal::{Refusal, Verdict};
+use types::refusal::Refusal;
 
 // Fine, or 4 where a flash of this many bytes does not have the page.
-pub fn check_page(bytes: usize, page: PageID) -> Verdict
+pub fn check_page(bytes: usize, page: PageID) -> Result<(), Refusal>
     ensures answers { result ≡ page_check bytes page }
 {
     if has_page(bytes, page) {
-        Verdict::Fine
+        Ok(())
     } else {
-        Verdict::Refused(Refusal::OutOfRange)
+        Err(Refusal::OutOfRange)
     }
 }
 
 // The checks before a page is opened whose higher header has h bytes.
-pub fn check_open(bytes: usize, h: usize, page: PageID) -> Verdict
+#[tactic(auto, unfolding(crate::specs::Checks::open_check))]
+pub fn check_open(bytes: usize, h: usize, page: PageID) -> Result<(), Refusal>
     ensures answers { result ≡ open_check bytes h page }
 {
-    if let Verdict::Refused(why) = check_flash(bytes) {
-        return Verdict::Refused(why);
-    }
-    if let Verdict::Refused(why) = check_header(h) {
-        return Verdict::Refused(why);
-    }
+    check_flash(bytes)?;
+    check_header(h)?;
     check_page(bytes, page)
 }

@@ -1,89 +1,26 @@
 // The chunk header: mark, length and sum of the payload that follows it.
 ghost use Rattle.std.specs.Prelude.{◌≡◌};
-ghost use Rattle.types.specs.Answers.{size_or};
-ghost use Rattle.page.specs.Answers.{step_told};
 ghost use Rattle.page.specs.Chunks.{align_up, chunk_header, chunk_at, payload_at, checked_at};
 
 use crc::crc32;
 use slices::field::{get16, get32, put16, put32};
 use slices::part::part_of;
 use types::config::{ALIGN, CHUNK_HEADER_SIZE, MAX_CHUNK_SIZE, PAGE_SIZE};
-use types::refusal::Refusal;
+use types::refusal::Corrupted;
 
 pub const CHUNK_MAGIC: u16 = 0x59C5;
 
-// What stands at an offset of a page.
+// A chunk: its length, its sum, and where the next one starts.
 #[derive(Clone, Copy)]
-pub enum Step {
-    // No chunk: the page's chunks end here.
-    End,
-    // A chunk whose length cannot be, whose payload is not all there, or whose sum is wrong.
-    Corrupted,
-    // A chunk, and where the next one starts.
-    Chunk { len: usize, crc: u32, next: usize },
+pub struct ChunkAt {
+    pub len: usize,
+    pub crc: u32,
+    pub next: usize,
 }
 
-impl Step {
-    // The number of the row that refuses, 0 where none does.
-    pub fn number(self) -> u8
-        ensures answers { result ≡ (step_told self).number }
-    {
-        match self {
-            Step::End => 0,
-            Step::Corrupted => Refusal::Corrupted.number(),
-            Step::Chunk {
-                len: _,
-                crc: _,
-                next: _,
-            } => 0,
-        }
-    }
-
-    // A chunk's length, or another number where there is no chunk.
-    pub fn len_or(self, other: usize) -> usize
-        ensures answers { result ≡ size_or other 0 (step_told self) }
-    {
-        match self {
-            Step::End => other,
-            Step::Corrupted => other,
-            Step::Chunk {
-                len,
-                crc: _,
-                next: _,
-            } => len,
-        }
-    }
-
-    // A chunk's sum, or another number where there is no chunk.
-    pub fn crc_or(self, other: u32) -> u32
-        ensures answers { result ≡ size_or other 1 (step_told self) }
-    {
-        match self {
-            Step::End => other,
-            Step::Corrupted => other,
-            Step::Chunk {
-                len: _,
-                crc,
-                next: _,
-            } => crc,
-        }
-    }
-
-    // Where the chunk after this one starts, or another offset where there is no chunk.
-    pub fn next_or(self, other: usize) -> usize
-        ensures answers { result ≡ size_or other 2 (step_told self) }
-    {
-        match self {
-            Step::End => other,
-            Step::Corrupted => other,
-            Step::Chunk {
-                len: _,
-                crc: _,
-                next,
-            } => next,
-        }
-    }
-}
+// What stands at an offset of a page: a chunk, or none where the page's chunks end. It is refused where a chunk's length cannot be, its
+// payload is not all there, or its sum is wrong.
+pub type Step = Result<Option<ChunkAt>, Corrupted>;
 
 // A number of bytes rounded up to whole groups.
 pub fn align_up(n: u32) -> usize
@@ -93,6 +30,7 @@ pub fn align_up(n: u32) -> usize
 }
 
 // The header of a chunk of this length and sum.
+#[tactic(auto, unfolding(crate::specs::Chunks::chunk_header, types::specs::Bytes::bytes_of))]
 pub fn chunk_header(len: u16, crc: u32) -> [u8; CHUNK_HEADER_SIZE]
     ensures answers { result ≡ chunk_header len crc }
 {
@@ -103,35 +41,35 @@ pub fn chunk_header(len: u16, crc: u32) -> [u8; CHUNK_HEADER_SIZE]
 }
 
 // What stands at an offset, by the chunk's header alone.
-#[tactic(auto, using(crate::proofs::ChunkLaws::chunk_missing))]
+#[tactic(auto, unfolding(crate::specs::Chunks::chunk_at))]
 pub fn chunk_at(page: &[u8], at: usize) -> Step
     ensures answers { result ≡ chunk_at page.now at }
 {
     if PAGE_SIZE - CHUNK_HEADER_SIZE < at {
-        return Step::End;
+        return Ok(None);
     }
     if page.len() < at + CHUNK_HEADER_SIZE {
-        return Step::End;
+        return Ok(None);
     }
     if get16(page, at) != CHUNK_MAGIC {
-        return Step::End;
+        return Ok(None);
     }
     let len = get16(page, at + 2) as usize;
     if MAX_CHUNK_SIZE < len {
-        return Step::Corrupted;
+        return Err(Corrupted);
     }
     let end = at + CHUNK_HEADER_SIZE + len;
     if PAGE_SIZE < end {
-        return Step::Corrupted;
+        return Err(Corrupted);
     }
     if page.len() < end {
-        return Step::Corrupted;
+        return Err(Corrupted);
     }
-    Step::Chunk {
+    Ok(Some(ChunkAt {
         len,
         crc: get32(page, at + 4),
         next: align_up(end as u32),
-    }
+    }))
 }
 
 // The payload of a chunk at an offset.
@@ -142,19 +80,17 @@ pub fn payload_at(page: &[u8], at: usize, len: usize) -> &[u8]
 }
 
 // What stands at an offset, by the chunk's header and then its sum.
+#[tactic(auto, unfolding(crate::specs::Chunks::checked_at))]
 pub fn checked_at(page: &[u8], at: usize) -> Step
     ensures answers { result ≡ checked_at page.now at }
 {
-    match chunk_at(page, at) {
-        Step::End => Step::End,
-        Step::Corrupted => Step::Corrupted,
-        Step::Chunk { len, crc, next } => {
-            let payload = payload_at(page, at, len);
-            if (payload.len() == len) & (crc32(payload) == crc) {
-                Step::Chunk { len, crc, next }
-            } else {
-                Step::Corrupted
-            }
-        }
+    let Some(chunk) = chunk_at(page, at)? else {
+        return Ok(None);
+    };
+    let payload = payload_at(page, at, chunk.len);
+    if payload.len() == chunk.len && crc32(payload) == chunk.crc {
+        Ok(Some(chunk))
+    } else {
+        Err(Corrupted)
     }
 }

@@ -3,18 +3,11 @@
 use crate::line::{line_end, number, text};
 use crate::walk::STEPS;
 use crc::crc32;
-use page::chunk::{Step, chunk_at, payload_at};
+use page::chunk::{chunk_at, payload_at};
 use slices::field::get16;
 use slices::part::part_of;
 use std::io;
-
-#[derive(Clone, Copy)]
-struct Next {
-    goes_on: bool,
-    // Whether the line could be written.
-    said: io::Result<()>,
-    at: usize,
-}
+use types::refusal::Corrupted;
 
 fn say_start(rt: &HostRuntime, at: usize, len: usize) {
     text(rt, b"  chunk at ");
@@ -23,36 +16,23 @@ fn say_start(rt: &HostRuntime, at: usize, len: usize) {
     number(rt, len);
 }
 
-fn say_right(rt: &HostRuntime, right: bool) -> io::Result<()> {
-    if right {
-        return line_end(rt, b", sum right\n");
-    }
-    line_end(rt, b", sum wrong\n")
-}
-
-fn say_chunk(rt: &HostRuntime, page: &[u8], at: usize) -> Next {
+// The line of the chunk at an offset: where the next one may start.
+fn say_chunk(rt: &HostRuntime, page: &[u8], at: usize) -> io::Result<Option<usize>> {
     match chunk_at(page, at) {
-        Step::End => Next {
-            goes_on: false,
-            said: Ok(()),
-            at,
-        },
-        Step::Corrupted => {
+        Ok(None) => Ok(None),
+        Err(Corrupted) => {
             say_start(rt, at, get16(part_of(page, at, 4), 2) as usize);
-            Next {
-                goes_on: false,
-                said: line_end(rt, b", more than there can be\n"),
-                at,
-            }
+            line_end(rt, b", more than there can be\n")?;
+            Ok(None)
         }
-        Step::Chunk { len, crc, next } => {
-            say_start(rt, at, len);
-            let said = say_right(rt, crc32(payload_at(page, at, len)) == crc);
-            Next {
-                goes_on: said.is_ok(),
-                said,
-                at: next,
+        Ok(Some(chunk)) => {
+            say_start(rt, at, chunk.len);
+            if crc32(payload_at(page, at, chunk.len)) == chunk.crc {
+                line_end(rt, b", sum right\n")?;
+            } else {
+                line_end(rt, b", sum wrong\n")?;
             }
+            Ok(Some(chunk.next))
         }
     }
 }
@@ -60,11 +40,10 @@ fn say_chunk(rt: &HostRuntime, page: &[u8], at: usize) -> Next {
 pub(crate) fn say_chunks(rt: &HostRuntime, page: &[u8], start: usize) -> io::Result<()> {
     let mut at = start;
     for _ in 0..STEPS {
-        let next = say_chunk(rt, page, at);
-        if !next.goes_on {
-            return next.said;
-        }
-        at = next.at;
+        let Some(next) = say_chunk(rt, page, at)? else {
+            return Ok(());
+        };
+        at = next;
     }
     Ok(())
 }

@@ -1,4 +1,5 @@
 // What a page's header has, and which of its checks fails.
+use crate::image::Image;
 use crate::line::{hex_on, line_end, text};
 use crc::crc32;
 use desk::say::{number_on, text_on};
@@ -9,6 +10,7 @@ use slices::part::part_of;
 use std::io;
 use types::config::{ALIGN, MAX_HEADER_SIZE};
 use types::page_id::PageID;
+use types::refusal::Refusal;
 
 // The higher header's bytes, where there are any.
 pub(crate) fn say_higher(rt: &HostRuntime, page: &[u8], h: usize) {
@@ -22,28 +24,23 @@ pub(crate) fn say_higher(rt: &HostRuntime, page: &[u8], h: usize) {
     text(rt, b", ");
 }
 
-// The first length of a higher header at which the page's sum is right, or one that is too long.
-fn fitting_length(page: &[u8]) -> usize {
-    let mut h = 0;
-    while h <= MAX_HEADER_SIZE {
-        if get32(page, 8) == crc32(header_of(page, h)) {
-            return h;
-        }
-        h += ALIGN;
-    }
-    h
+// The first length of a higher header at which the page's sum is right.
+fn fitting_length(page: &[u8]) -> Option<usize> {
+    let sum = get32(page, 8);
+    (0..=MAX_HEADER_SIZE)
+        .step_by(ALIGN)
+        .find(|h| crc32(header_of(page, *h)) == sum)
 }
 
 // Both sums, and the length at which they would be one.
 fn sums_on(to: &impl Print, page: &[u8], h: usize) {
-    let other = fitting_length(page);
     text_on(to, b"its sum is ");
     hex_on(to, get32(page, 8));
     text_on(to, b", and that of a higher header of ");
     number_on(to, h);
     text_on(to, b" bytes is ");
     hex_on(to, crc32(header_of(page, h)));
-    if other <= MAX_HEADER_SIZE {
+    if let Some(other) = fitting_length(page) {
         text_on(to, b"; with ");
         number_on(to, other);
         text_on(to, b" bytes it is right");
@@ -51,11 +48,12 @@ fn sums_on(to: &impl Print, page: &[u8], h: usize) {
 }
 
 // The first check of a refused header that fails, in the order of the calls, and what stands there.
-pub(crate) fn fault_on(to: &impl Print, page: &[u8], magic: u32, id: PageID, h: usize) {
+pub(crate) fn fault_on(to: &impl Print, image: Image<'_>, id: PageID) {
+    let page = image.page(id);
     let there = get32(page, 0);
     let place = get32(page, 4) as usize;
     text_on(to, b"in its header: ");
-    if there != magic {
+    if there != image.magic {
         text_on(to, b"its magic is ");
         hex_on(to, there);
         return;
@@ -65,22 +63,18 @@ pub(crate) fn fault_on(to: &impl Print, page: &[u8], magic: u32, id: PageID, h: 
         number_on(to, place);
         return;
     }
-    sums_on(to, page, h);
+    sums_on(to, page, image.h);
 }
 
 // The line of a page whose header is refused. It has the higher header where magic and page number are right.
-pub(crate) fn say_refused(
-    rt: &HostRuntime,
-    page: &[u8],
-    magic: u32,
-    id: PageID,
-    h: usize,
-) -> io::Result<()> {
-    if (get32(page, 0) == magic) & (get32(page, 4) as usize == id.index()) {
-        say_higher(rt, page, h);
+pub(crate) fn say_refused(rt: &HostRuntime, image: Image<'_>, id: PageID) -> io::Result<()> {
+    let page = image.page(id);
+    if (get32(page, 0) == image.magic) & (get32(page, 4) as usize == id.index()) {
+        say_higher(rt, page, image.h);
     }
-    text(rt, b"Corrupted (1) ");
-    fault_on(rt, page, magic, id, h);
+    let _ = rt.print(Refusal::Corrupted);
+    text(rt, b" ");
+    fault_on(rt, image, id);
     line_end(rt, b"\n")
 }
 

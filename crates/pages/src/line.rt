@@ -12,12 +12,7 @@ pub(crate) fn number(rt: &HostRuntime, n: usize) {
 }
 
 pub(crate) fn hex_on(to: &impl Print, n: u32) {
-    let digits = hex32(n);
-    text_on(to, &digits);
-}
-
-pub(crate) fn hex(rt: &HostRuntime, n: u32) {
-    hex_on(rt, n);
+    text_on(to, &hex32(n));
 }
 
 // The end of a line, and whether it could be written.

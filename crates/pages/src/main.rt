@@ -6,61 +6,51 @@ mod choice;
 mod chunks;
 mod header;
 mod help;
+mod image;
 mod line;
 mod listing;
 mod magic;
 mod reading;
 mod walk;
 
-use choice::{Choice, chosen};
+use choice::Asked;
 use desk::arguments::ARGUMENT_ROOM;
-use desk::files::{Filled, read_file};
+use desk::files::{NotFilled, read_file};
 use desk::say;
-use desk::say::{number_on, text_on};
-use digits::number::{Number, Word32, decimal_in};
+use desk::say::{Said, number_on, text_on};
+use digits::number::decimal_in;
 use flash::geometry::check_flash;
+use image::Image;
 use magic::magic_in;
-use reading::Asked;
-use script::space::flash_space;
+use script::space::{FLASH_ROOM, space};
 use slices::part::part_of;
 use std::env::Env;
-use types::config::{MAX_PAGE_COUNT, PAGE_SIZE};
+use types::config::{ERASE_VALUE, MAX_PAGE_COUNT, PAGE_SIZE};
 use types::page_id::PageID;
-use types::refusal::{Refusal, Verdict};
+use types::refusal::Refusal;
 
-fn number_at(rt: &HostRuntime, i: usize) -> Number {
+// What argument i says, as it is read.
+fn read_at<T, F: Fn(&[u8]) -> Option<T>>(rt: &HostRuntime, i: usize, read: F) -> Option<T>
+    requires { F.IsAlwaysCallable read }
+{
     let mut word = [0; ARGUMENT_ROOM];
     let n = rt.arg(i, &mut word).unwrap_or(0);
-    decimal_in(part_of(&word, 0, n))
+    read(&word[..n])
 }
 
-fn magic_at(rt: &HostRuntime, i: usize) -> Word32 {
-    let mut word = [0; ARGUMENT_ROOM];
-    let n = rt.arg(i, &mut word).unwrap_or(0);
-    magic_in(part_of(&word, 0, n))
+fn page_at(rt: &HostRuntime, i: usize) -> Option<PageID> {
+    let n = read_at(rt, i, decimal_in)?;
+    Some(PageID(u16::try_from(n).ok()?))
 }
 
-// Says that argument i is not what it should be, and answers false.
-fn not_so(rt: &HostRuntime, what: &[u8], i: usize) -> bool {
+// Says that argument i is not what it should be.
+fn not_so(rt: &HostRuntime, what: &[u8], i: usize) -> Said {
     say::text(rt, b"pages: ");
     say::text(rt, what);
     say::text(rt, b": ");
     say::argument(rt, i);
     say::text(rt, b"\n");
-    false
-}
-
-// Prints the bytes of the page that argument i names.
-fn one_page(rt: &HostRuntime, flash: &[u8], magic: u32, h: usize, i: usize) -> bool {
-    let Number::Value(n) = number_at(rt, i) else {
-        return not_so(rt, b"PAGE is not a page number", i);
-    };
-    if n <= 65535 {
-        let id = PageID(n as u16);
-        reading::hand_out(rt, flash, Asked { magic, id, h });
-        return true;
-    }
-    not_so(rt, b"PAGE is not a page number", i)
+    Said
 }
 
 // Says why an image of this size is no flash.
@@ -78,59 +68,66 @@ fn size_on(to: &impl Print, bytes: usize) {
     text_on(to, b" bytes");
 }
 
-fn bad_flash(rt: &HostRuntime, c: Choice, why: Refusal, bytes: usize) -> bool {
+fn bad_flash(rt: &HostRuntime, asked: &Asked, why: Refusal, bytes: usize) {
     say::refusal(rt, b"pages", why);
     size_on(&rt.stderr(), bytes);
     say::refused(rt);
-    if c.lists() {
+    if asked.page().is_none() {
         say::list_refused(rt, why);
         size_on(rt, bytes);
         text_on(rt, b"\n");
     }
-    true
 }
 
-fn show(rt: &HostRuntime, c: Choice, flash: &[u8], magic: u32, h: usize) -> bool {
-    let words = c.words;
-    if let Verdict::Refused(why) = check_flash(flash.len()) {
-        return bad_flash(rt, c, why, flash.len());
+// Lists the pages, or prints the bytes of the one that is asked for.
+fn show(rt: &HostRuntime, asked: &Asked, image: Image<'_>) -> Result<(), Said> {
+    if let Err(why) = check_flash(image.flash.len()) {
+        bad_flash(rt, asked, why, image.flash.len());
+        return Ok(());
     }
-    if c.lists() {
-        listing::list(rt, flash, magic, h, c.chunks);
-        return true;
+    match asked.page() {
+        None => listing::list(rt, image, asked.chunks),
+        Some(i) => {
+            let id = page_at(rt, i).ok_or_else(|| not_so(rt, b"PAGE is not a page number", i))?;
+            reading::hand_out(rt, image, id);
+        }
     }
-    one_page(rt, flash, magic, h, words[3])
+    Ok(())
 }
 
-// Does what is asked, or says why not and answers false.
-fn run(rt: &HostRuntime, c: Choice) -> bool {
-    let words = c.words;
-    let Word32::Word(magic) = magic_at(rt, words[1]) else {
-        return not_so(rt, b"MAGIC is not one to eight hex digits", words[1]);
-    };
-    let Number::Value(h) = number_at(rt, words[2]) else {
-        return not_so(rt, b"H is not a number", words[2]);
-    };
-    let mut space = flash_space();
-    match read_file(rt, b"pages", words[0], &mut space, 0) {
-        Filled::To(n) => show(rt, c, part_of(&space, 0, n), magic, h),
-        Filled::More => bad_flash(rt, c, Refusal::BadFlash, space.len()),
-        Filled::Bad => false,
+// Does what is asked, or says why not.
+fn run(rt: &HostRuntime, asked: &Asked) -> Result<(), Said> {
+    let [file, magic, h, _] = asked.words;
+    let magic = read_at(rt, magic, magic_in).ok_or_else(|| not_so(
+        rt,
+        b"MAGIC is not one to eight hex digits",
+        magic,
+    ))?;
+    let h = read_at(rt, h, decimal_in).ok_or_else(|| not_so(rt, b"H is not a number", h))?;
+    let mut space = space::<FLASH_ROOM>(ERASE_VALUE);
+    match read_file(rt, b"pages", file, &mut space, 0) {
+        Ok(n) => {
+            let flash = part_of(&space, 0, n);
+            show(rt, asked, Image { flash, magic, h })
+        }
+        Err(NotFilled::More) => {
+            bad_flash(rt, asked, Refusal::BadFlash, space.len());
+            Ok(())
+        }
+        Err(NotFilled::Bad) => Err(Said),
     }
 }
 
 fn main(rt: HostRuntime) {
-    let c = chosen(&rt);
-    if c.helps {
+    let mut asked = Asked::nothing();
+    let chosen = asked.choose(&rt);
+    if asked.helps {
         help::say(&rt);
         return;
     }
-    if c.fine {
-        if run(&rt, c) {
-            return;
+    if let Err(Said) = chosen.and_then(|_| run(&rt, &asked)) {
+        if asked.page().is_none() {
+            say::list_failed(&rt);
         }
-    }
-    if c.lists() {
-        say::list_failed(&rt);
     }
 }

@@ -1,4 +1,6 @@
 -- Buffers of any sizes from 1 on hand out the same bytes, in other pieces. Assumes nothing.
+use Rattle.std.specs.Prelude.{Ok, Err, Some, None}
+use Rattle.types.specs.Checks.{Verdict}
 use mathlib.Core.Path.{◌≡◌, refl, sym, ap, subst, ◌∙◌}
 use mathlib.Core.Bool.{Bool, true, false, cond}
 use mathlib.Core.List.{List, [], ◌∷◌, ◌++◌, append_assoc, flatten}
@@ -10,16 +12,12 @@ use lib.ListN.{length, take, drop, length-drop, take-append-drop, drop_of_length
 use lib.Seq.{drop-drop}
 use Rattle.types.specs.Build.{page_size, align, page_header_size, chunk_header_size}
 use Rattle.types.specs.declared.page_id.PageID.{PageID}
-use Rattle.types.specs.declared.refusal.Verdict.{Verdict}
-use Rattle.types.specs.declared.refusal.Verdict.TheVariants.{Fine, Refused}
 use Rattle.types.proofs.TestLaws.{decided, eq-or-ne, le-or-lt}
 use Rattle.flash.specs.Geometry.{page_of}
 use Rattle.page.specs.Checks.{open_check}
-use Rattle.page.specs.Chunks.{next_offset, payload_at, checked_at}
+use Rattle.page.specs.Chunks.{next_offset, payload_at, checked_at, Step}
 use Rattle.page.specs.Headers.{page_header_fine}
 use Rattle.page.specs.Walks.{Chunk, Walked, walk_from}
-use Rattle.page.specs.declared.chunk.Step.{Step}
-use Rattle.page.specs.declared.chunk.Step.TheVariants as step
 use Rattle.page.proofs.CheckLaws.{Inside, open-checked}
 use Rattle.page.proofs.LaidLaws.{All, end_of, end-within, walk-laid}
 use Rattle.reader.specs.Finds.{Found, Joined, NotEmpty, joined, nothing_more, and_then, reads, read_all, found_with, walk_finds}
@@ -27,7 +25,6 @@ use Rattle.reader.specs.Calls.{opening_of, open_page}
 use Rattle.reader.specs.Checks.{reader_check}
 use Rattle.reader.specs.Moves.{arriving, moved, ready, rest_of, past}
 use Rattle.reader.specs.States.{new_reader, unread}
-use Rattle.reader.specs.declared.moves.Arrived.TheVariants.{At}
 use Rattle.reader.specs.declared.page_reader.PageReader.{PageReader}
 use Rattle.reader.proofs.CheckLaws.{reader-checked}
 use Rattle.reader.proofs.MoveLaws.{apart, ready-ended, ready-in, ready-used, rest_in, rest_ended}
@@ -95,8 +92,8 @@ Enough flash page n = (o len crc k : ℕ) (buffers : ℕ → List ℕ) → Readi
 
 module _ (flash : List ℕ) (page : PageID) (inside : Inside (length flash) page.0) where
   -- some of what it can read at once, and the reads after that
-  hand-some : (n : ℕ) → Enough flash page n → (r : PageReader) → reader_check (length flash) r ≡ Fine → (buffers : ℕ → List ℕ) → 1 ≤ length (buffers 0)
-      → (o len crc k : ℕ) → ready (page_of r.page.0 flash) r ≡ At (on page false o len crc k) → page_of r.page.0 flash ≡ page_of page.0 flash
+  hand-some : (n : ℕ) → Enough flash page n → (r : PageReader) → reader_check (length flash) r ≡ Ok tt → (buffers : ℕ → List ℕ) → 1 ≤ length (buffers 0)
+      → (o len crc k : ℕ) → ready (page_of r.page.0 flash) r ≡ Ok (on page false o len crc k) → page_of r.page.0 flash ≡ page_of page.0 flash
       → o + chunk_header_size + len ≤ page_size → k < len
       → ((j : ℕ) → suc j ≤ len - k → Reading flash page n o len (k + suc j) (λ i. buffers (suc i)))
       → joined (reads (suc n) buffers flash r)
@@ -139,23 +136,23 @@ module _ (flash : List ℕ) (page : PageID) (inside : Inside (length flash) page
       by x e v (ready-used bytes r refl used ∙ ap (arriving r (next_offset o len)) e)
       ∙ sym (ap joined (finds-step bytes (next_offset o len) ∙ ap (finds_at bytes (next_offset o len)) e))
     where
-      by : (x : Step) → checked_at (page_of page.0 flash) (next_offset o len) ≡ x → reader_check (length flash) (on page false o len crc k) ≡ Fine
+      by : (x : Step) → checked_at (page_of page.0 flash) (next_offset o len) ≡ x → reader_check (length flash) (on page false o len crc k) ≡ Ok tt
           → ready (page_of page.0 flash) (on page false o len crc k) ≡ arriving (on page false o len crc k) (next_offset o len) x
           → joined (reads (suc n) buffers flash (on page false o len crc k)) ≡ joined (finds_at (page_of page.0 flash) (next_offset o len) x)
-      by step.End e v at =
+      by (Ok None) e v at =
           let q = on page true (next_offset o len) len crc k in
           ap joined (reads_end flash (on page false o len crc k) v n buffers q at (rest_ended (page_of page.0 flash) q refl))
-      by step.Corrupted e v at = ap joined (reads-bad flash (on page false o len crc k) v n buffers at)
-      by (step.Chunk len' crc' next) e v at =
+      by (Err w) e v at = ap joined (reads-bad flash (on page false o len crc k) v n buffers at)
+      by (Ok (Some chunk)) e v at =
           let bytes = page_of page.0 flash in
           let o' = next_offset o len in
-          let c = chunk-in-walk bytes o' len' crc' next e d.full in
-          let fits : o' + 8 + len' ≤ page_size = c.found.fits in
-          let after : next ≡ next_offset o' len' = c.found.after in
-          let some : 1 ≤ len' = c.some in
+          let c = chunk-in-walk bytes o' chunk.len chunk.crc chunk.next e d.full in
+          let fits : o' + 8 + chunk.len ≤ page_size = c.found.fits in
+          let after : chunk.next ≡ next_offset o' chunk.len = c.found.after in
+          let some : 1 ≤ chunk.len = c.some in
           let start : 12 ≤ o = d.start in
-          let sum : total (walk_from bytes o').chunks ≡ len' + total (walk_from bytes next).chunks = ap (λ (w : Walked). total w.chunks) c.walked in
-          hand-some n ih (on page false o len crc k) v buffers (d.room 0) o' len' crc' 0 at refl fits (omega arith)
+          let sum : total (walk_from bytes o').chunks ≡ chunk.len + total (walk_from bytes chunk.next).chunks = ap (λ (w : Walked). total w.chunks) c.walked in
+          hand-some n ih (on page false o len crc k) v buffers (d.room 0) o' chunk.len chunk.crc 0 at refl fits (omega arith)
           (λ j few.
           record {
             room = λ i. d.room (suc i);
@@ -164,9 +161,9 @@ module _ (flash : List ℕ) (page : PageID) (inside : Inside (length flash) page
             fits = fits;
             within = omega arith;
             full = subst (λ (m : ℕ). All NotEmpty (walk_from bytes m).chunks) after c.others;
-            enough = subst (λ (m : ℕ). len' - (0 + suc j) + total (walk_from bytes m).chunks < n) after (omega (arith, d.enough));
+            enough = subst (λ (m : ℕ). chunk.len - (0 + suc j) + total (walk_from bytes m).chunks < n) after (omega (arith, d.enough));
           })
-          ∙ sym (joined-then (payload_at bytes o' len') (walk_finds bytes next) ∙ ap (λ (m : ℕ). ahead (payload_at bytes o' len') (joined (walk_finds bytes m))) after)
+          ∙ sym (joined-then (payload_at bytes o' chunk.len) (walk_finds bytes chunk.next) ∙ ap (λ (m : ℕ). ahead (payload_at bytes o' chunk.len) (joined (walk_finds bytes m))) after)
 
   hand-out : (n : ℕ) → Enough flash page n
   hand-out zero o len crc k buffers d = absurd (not-suc-le-zero d.enough)
@@ -188,18 +185,18 @@ module _ (flash : List ℕ) (page : PageID) (inside : Inside (length flash) page
       → (buffers : ℕ → List ℕ) → ((i : ℕ) → 1 ≤ length (buffers i)) → (r : PageReader) (x : Step) → checked_at (page_of page.0 flash) o ≡ x
       → joined (read_all (reads (suc page_size) buffers flash) (opening_of r (arriving (unread page) o x)).answer (opening_of r (arriving (unread page) o x)).reader)
       ≡ joined (finds_at (page_of page.0 flash) o x)
-  opened-hands-out o g s w full buffers room r step.Corrupted c = refl
-  opened-hands-out o g s w full buffers room r step.End c =
+  opened-hands-out o g s w full buffers room r (Err bad) c = refl
+  opened-hands-out o g s w full buffers room r (Ok None) c =
       let bytes = page_of page.0 flash in
       let q = on page true o 0 0 0 in
       ap joined
       (reads_end flash q (on_fine flash page inside q refl (record { low = inside.low; chunk = λ e. absurd (apart refl e) })) page_size buffers q (ready-ended bytes q refl) (rest_ended bytes q refl))
-  opened-hands-out o g s w full buffers room r (step.Chunk len crc next) c =
+  opened-hands-out o g s w full buffers room r (Ok (Some chunk)) c =
       let bytes = page_of page.0 flash in
-      let k = chunk-in-walk bytes o len crc next c full in
-      let after : next ≡ next_offset o len = k.found.after in
-      let sum : total (walk_from bytes o).chunks ≡ len + total (walk_from bytes next).chunks = ap (λ (w : Walked). total w.chunks) k.walked in
-      hand-out 4097 o len crc 0 buffers
+      let k = chunk-in-walk bytes o chunk.len chunk.crc chunk.next c full in
+      let after : chunk.next ≡ next_offset o chunk.len = k.found.after in
+      let sum : total (walk_from bytes o).chunks ≡ chunk.len + total (walk_from bytes chunk.next).chunks = ap (λ (w : Walked). total w.chunks) k.walked in
+      hand-out 4097 o chunk.len chunk.crc 0 buffers
       (record {
         room = room;
         group = g;
@@ -207,9 +204,9 @@ module _ (flash : List ℕ) (page : PageID) (inside : Inside (length flash) page
         fits = k.found.fits;
         within = omega arith;
         full = subst (λ (m : ℕ). All NotEmpty (walk_from bytes m).chunks) after k.others;
-        enough = subst (λ (m : ℕ). len - 0 + total (walk_from bytes m).chunks < 4097) after (omega (arith, walk-total bytes o w));
+        enough = subst (λ (m : ℕ). chunk.len - 0 + total (walk_from bytes m).chunks < 4097) after (omega (arith, walk-total bytes o w));
       })
-      ∙ sym (joined-then (payload_at bytes o len) (walk_finds bytes next) ∙ ap (λ (m : ℕ). ahead (payload_at bytes o len) (joined (walk_finds bytes m))) after)
+      ∙ sym (joined-then (payload_at bytes o chunk.len) (walk_finds bytes chunk.next) ∙ ap (λ (m : ℕ). ahead (payload_at bytes o chunk.len) (joined (walk_finds bytes m))) after)
 
 -- ---- the reads of any reader in range, whatever brought it there
 
@@ -223,9 +220,9 @@ joined-none v = refl
 
 -- what is left for a reader: the rest of its chunk, and what the walk finds behind it
 abbrev pub remaining : List ℕ → PageReader → Joined
-remaining page r = cond r.ended (no_bytes Fine) (ahead (rest_of page r) (joined (walk_finds page (next_offset r.offset r.len))))
+remaining page r = cond r.ended (no_bytes (Ok tt)) (ahead (rest_of page r) (joined (walk_finds page (next_offset r.offset r.len))))
 
-pub remaining-ended : (page : List ℕ) (r : PageReader) → r.ended ≡ true → remaining page r ≡ no_bytes Fine
+pub remaining-ended : (page : List ℕ) (r : PageReader) → r.ended ≡ true → remaining page r ≡ no_bytes (Ok tt)
 remaining-ended page r e = rw e
 
 pub remaining-in : (page : List ℕ) (r : PageReader) → r.ended ≡ false
@@ -236,7 +233,7 @@ remaining-in page r e = rw e
 abbrev pub FullBehind : List ℕ → PageReader → Type 0
 FullBehind page r = r.ended ≡ false → All NotEmpty (walk_from page (next_offset r.offset r.len)).chunks
 
-pub reads-remaining : (flash : List ℕ) (r : PageReader) → reader_check (length flash) r ≡ Fine → FullBehind (page_of r.page.0 flash) r
+pub reads-remaining : (flash : List ℕ) (r : PageReader) → reader_check (length flash) r ≡ Ok tt → FullBehind (page_of r.page.0 flash) r
     → (buffers : ℕ → List ℕ) → ((i : ℕ) → 1 ≤ length (buffers i))
     → joined (reads (suc page_size) buffers flash r) ≡ remaining (page_of r.page.0 flash) r
 reads-remaining flash r v full buffers room =
@@ -244,7 +241,7 @@ reads-remaining flash r v full buffers room =
     let known = reader-checked (length flash) r v in
     ⊎_elim
     (λ (e : r.ended ≡ true).
-    ap joined (reads_end flash r v page_size buffers r (ready-ended bytes r e) (rest_ended bytes r e)) ∙ joined-none Fine ∙ sym (remaining-ended bytes r e))
+    ap joined (reads_end flash r v page_size buffers r (ready-ended bytes r e) (rest_ended bytes r e)) ∙ joined-none (Ok tt) ∙ sym (remaining-ended bytes r e))
     (λ (e : r.ended ≡ false).
     let c = known.range.chunk e in
     let fits : r.offset + 8 + r.len ≤ page_size = c.fits in
@@ -261,7 +258,7 @@ reads-remaining flash r v full buffers room =
 
 module _ (flash : List ℕ) (magic : ℕ) (page : PageID) (h : ℕ) where
   -- what buffers of any sizes hand out, joined, is what the walk finds, joined
-  pub joined-is-walk : open_check (length flash) h page ≡ Fine → page_header_fine (page_of page.0 flash) magic page.0 h ≡ true
+  pub joined-is-walk : open_check (length flash) h page ≡ Ok tt → page_header_fine (page_of page.0 flash) magic page.0 h ≡ true
       → All NotEmpty (walk_from (page_of page.0 flash) (page_header_size + h)).chunks → (buffers : ℕ → List ℕ) → ((i : ℕ) → 1 ≤ length (buffers i))
       → joined (found_with buffers flash magic page h) ≡ joined (walk_finds (page_of page.0 flash) (page_header_size + h))
   unfolding found_with open_page
@@ -282,6 +279,6 @@ module _ (flash : List ℕ) (magic : ℕ) (page : PageID) (h : ℕ) where
     where
       by : (v : Verdict) → open_check (length flash) h page ≡ v → (t : Bool) → page_header_fine (page_of page.0 flash) magic page.0 h ≡ t
           → joined (found_with a flash magic page h) ≡ joined (found_with b flash magic page h)
-      by (Refused w) v t f = ap joined (found-refused flash magic page h a w v ∙ sym (found-refused flash magic page h b w v))
-      by Fine v false f = ap joined (found-wrong flash magic page h a v f ∙ sym (found-wrong flash magic page h b v f))
-      by Fine v true f = joined-is-walk v f full a ha ∙ sym (joined-is-walk v f full b hb)
+      by (Err w) v t f = ap joined (found-refused flash magic page h a w v ∙ sym (found-refused flash magic page h b w v))
+      by (Ok tt) v false f = ap joined (found-wrong flash magic page h a v f ∙ sym (found-wrong flash magic page h b v f))
+      by (Ok tt) v true f = joined-is-walk v f full a ha ∙ sym (joined-is-walk v f full b hb)

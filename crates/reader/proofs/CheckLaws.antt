@@ -1,16 +1,13 @@
 -- The range of a reader, and what a call knows that has passed its checks. Assumes nothing.
+use Rattle.std.specs.Prelude.{Ok}
 use mathlib.Core.Path.{◌≡◌, refl}
-use mathlib.Core.Bool.{Bool, true, false, ◌&&◌, ◌||◌}
-use mathlib.Core.Logic.{⊎_elim}
-use Prim.Native.Nat.{ℕ, ◌+◌, ◌-◌, ◌%◌, ◌≤◌, ◌<◌}
-use native.Mathlib.Omega.{arith}
-use lib.Dec.{eqb, leb}
-use borrow.Author.Tests.{eqb-true, leb-true, ltb-true, eq-eqb, le-leb, lt-ltb, lt-leb}
+use mathlib.Core.Bool.{Bool, true, false, ◌||◌}
+use Prim.Native.Nat.{ℕ, ◌+◌, ◌%◌, ◌≤◌, ◌<◌}
+use borrow.Author.Tests.{eqb-true, leb-true, ltb-true, eq-eqb, le-leb, lt-ltb}
 use Rattle.types.specs.Build.{page_size, align, max_page_count, page_header_size, chunk_header_size}
 use Rattle.types.specs.declared.refusal.Refusal.TheVariants.{OutOfRange, BadFlash, BadState}
-use Rattle.types.specs.declared.refusal.Verdict.TheVariants.{Fine}
 use Rattle.types.proofs.CheckLaws.{asking-fine}
-use Rattle.types.proofs.TestLaws.{both_true, le-or-lt}
+use Rattle.types.proofs.TestLaws.{both_true}
 use Rattle.flash.specs.Geometry.{flash_fine, whole_pages, has_page}
 use Rattle.page.proofs.CheckLaws.{Inside, inside}
 use Rattle.reader.specs.Checks.{chunk_in_range, in_range, reader_check}
@@ -40,34 +37,6 @@ pub chunk_in : (offset len position : ℕ) → InChunk offset len position → c
 chunk_in offset len position k =
     rw (eq-eqb (offset % 4) 0 k.group, le-leb 12 offset k.start, le-leb (offset + 8 + len) page_size k.fits, le-leb position len k.within)
 
--- the last offset at which a chunk's header has room
-abbrev pub last_start : ℕ
-last_start = page_size - chunk_header_size
-
--- the code's way to ask whether a payload ends within the page
-pub fits-apart : (offset len : ℕ) → leb (offset + chunk_header_size + len) page_size ≡ (leb offset last_start && leb len (last_start - offset))
-fits-apart offset len =
-    ⊎_elim
-    (λ (low : offset ≤ last_start).
-    ⊎_elim
-    (λ (h : offset + 8 + len ≤ page_size).
-    rw (le-leb (offset + 8 + len) page_size h, le-leb offset last_start low, le-leb len (last_start - offset) (omega arith)))
-    (λ (h : page_size < offset + 8 + len).
-    rw (lt-leb (offset + 8 + len) page_size h, le-leb offset last_start low, lt-leb len (last_start - offset) (omega arith)))
-    (le-or-lt (offset + 8 + len) page_size))
-    (λ (high : last_start < offset).
-    rw (lt-leb (offset + 8 + len) page_size (omega arith), lt-leb offset last_start high))
-    (le-or-lt offset last_start)
-
-pub chunk-apart : (offset len position room : ℕ) → room ≡ last_start - offset
-    → (eqb (offset % align) 0 && leb page_header_size offset && leb offset last_start && leb len room && leb position len) ≡ chunk_in_range offset len position
-chunk-apart offset len position room e =
-    rw (e, fits-apart offset len) (again (eqb (offset % 4) 0 && leb 12 offset) (leb offset last_start) (leb len (last_start - offset)) (leb position len))
-  where
-    again : (a b c d : Bool) → (a && b && c && d) ≡ (a && (b && c) && d)
-    again true b c d = refl
-    again false b c d = refl
-
 pub record InRange (r : PageReader) : Type 0 where
   pub low : r.page.0 < max_page_count
   pub chunk : r.ended ≡ false → InChunk r.offset r.len r.position
@@ -94,7 +63,7 @@ pub record ReaderChecked (n : ℕ) (r : PageReader) : Type 0 where
   pub flash : Inside n r.page.0
   pub range : InRange r
 
-pub reader-checked : (n : ℕ) (r : PageReader) → reader_check n r ≡ Fine → ReaderChecked n r
+pub reader-checked : (n : ℕ) (r : PageReader) → reader_check n r ≡ Ok tt → ReaderChecked n r
 unfolding reader_check
 reader-checked n r e =
     let a = asking-fine (flash_fine n) BadFlash _ e in
@@ -103,6 +72,6 @@ reader-checked n r e =
     record { flash = inside n r.page.0 a.0 c.0; range = range-known r b.0 }
 
 -- the checks pass where each of their tests does
-pub reader-fine : (n : ℕ) (r : PageReader) → flash_fine n ≡ true → r.page.0 < whole_pages n → InRange r → reader_check n r ≡ Fine
+pub reader-fine : (n : ℕ) (r : PageReader) → flash_fine n ≡ true → r.page.0 < whole_pages n → InRange r → reader_check n r ≡ Ok tt
 unfolding reader_check
 reader-fine n r f has k = rw (f, range-in r k, lt-ltb r.page.0 (whole_pages n) has)

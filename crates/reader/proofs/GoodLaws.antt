@@ -1,4 +1,8 @@
 -- The good part of a list of chunks: the payloads up to the first wrong sum. Assumes nothing.
+use Rattle.std.specs.Prelude.{Ok, Err, Some, None}
+use Rattle.types.specs.Checks.{corruption}
+use Rattle.std.specs.declared.result.Result.{Result}
+use Rattle.types.specs.declared.refusal.Corrupted.{Corrupted}
 use mathlib.Core.Path.{◌≡◌, refl, ap, ap₂, ◌∙◌}
 use mathlib.Core.Bool.{true, false}
 use mathlib.Core.List.{List, [], ◌∷◌, ◌++◌, map, append-nil}
@@ -7,14 +11,9 @@ use Prim.Native.Nat.{ℕ, ◌%◌}
 use lib.ListN.{take}
 use Rattle.types.specs.Build.{align}
 use Rattle.types.specs.declared.refusal.Refusal.TheVariants as row
-use Rattle.types.specs.declared.refusal.Verdict.TheVariants.{Fine, Refused}
 use Rattle.types.proofs.TestLaws.{decided}
-use Rattle.page.specs.Chunks.{chunk_at, payload_at, checked_at}
+use Rattle.page.specs.Chunks.{chunk_at, payload_at, checked_at, Step}
 use Rattle.page.specs.Walks.{Chunk, Walked, walk_from}
-use Rattle.page.specs.declared.chunk.Step.{Step}
-use Rattle.page.specs.declared.chunk.Step.TheVariants as step
-use Rattle.page.specs.declared.walk.Ending.{Ending}
-use Rattle.page.specs.declared.walk.Ending.TheVariants as ending
 use Rattle.page.proofs.ChunkLaws.{checked-end, checked-bad, checked-right, checked-wrong}
 use Rattle.page.proofs.LaidLaws.{All, Placed, walk-laid, laid-placed, walk-ends-at}
 use Rattle.page.proofs.OntoLaws.{walk-onto, payload-below}
@@ -29,41 +28,41 @@ abbrev pub Right : List ℕ → Chunk → Type 0
 Right page c = sum_right page c ≡ true
 
 module _ (page : List ℕ) where
-  pub good_none : (e : Ending) → good_part page [] e ≡ nothing_more (end_verdict e)
+  pub good_none : (e : Result ℕ Corrupted) → good_part page [] e ≡ nothing_more (end_verdict e)
   unfolding good_part
   good_none e = refl
 
   -- a refusal stands at the first wrong sum
-  pub good-wrong : (c : Chunk) (cs : List Chunk) (e : Ending) → sum_right page c ≡ false → good_part page (c ∷ cs) e ≡ nothing_more (Refused row.Corrupted)
+  pub good-wrong : (c : Chunk) (cs : List Chunk) (e : Result ℕ Corrupted) → sum_right page c ≡ false → good_part page (c ∷ cs) e ≡ nothing_more (Err row.Corrupted)
   unfolding good_part
   good-wrong c cs e w = rw w
 
-  pub good_right : (c : Chunk) (cs : List Chunk) (e : Ending) → Right page c → good_part page (c ∷ cs) e ≡ and_then (payload_of page c) (good_part page cs e)
+  pub good_right : (c : Chunk) (cs : List Chunk) (e : Result ℕ Corrupted) → Right page c → good_part page (c ∷ cs) e ≡ and_then (payload_of page c) (good_part page cs e)
   unfolding good_part
   good_right c cs e r = rw r
 
   -- chunks whose sums are right hand out their payloads, and then come the others
-  pub good-onto : (cs ds : List Chunk) (e : Ending) → All (Right page) cs → good_part page (cs ++ ds) e ≡ onto (map (payload_of page) cs) (good_part page ds e)
+  pub good-onto : (cs ds : List Chunk) (e : Result ℕ Corrupted) → All (Right page) cs → good_part page (cs ++ ds) e ≡ onto (map (payload_of page) cs) (good_part page ds e)
   good-onto [] ds e a = refl
   good-onto (c ∷ cs) ds e a = good_right c (cs ++ ds) e a.0 ∙ ap (and_then (payload_of page c)) (good-onto cs ds e a.1)
 
   -- all of them are right: exactly their payloads, and the walk's end
-  pub good-whole : (cs : List Chunk) (e : Ending) → All (Right page) cs → good_part page cs e ≡ record { parts = map (payload_of page) cs; ends = end_verdict e }
+  pub good-whole : (cs : List Chunk) (e : Result ℕ Corrupted) → All (Right page) cs → good_part page cs e ≡ record { parts = map (payload_of page) cs; ends = end_verdict e }
   good-whole [] e a = good_none e
   good-whole (c ∷ cs) e a = good_right c cs e a.0 ∙ ap (and_then (payload_of page c)) (good-whole cs e a.1)
 
   -- the first wrong one ends it, whatever follows
-  pub good-until : (cs : List Chunk) (c : Chunk) (ds : List Chunk) (e : Ending) → All (Right page) cs → sum_right page c ≡ false
-      → good_part page (cs ++ c ∷ ds) e ≡ record { parts = map (payload_of page) cs; ends = Refused row.Corrupted }
+  pub good-until : (cs : List Chunk) (c : Chunk) (ds : List Chunk) (e : Result ℕ Corrupted) → All (Right page) cs → sum_right page c ≡ false
+      → good_part page (cs ++ c ∷ ds) e ≡ record { parts = map (payload_of page) cs; ends = Err row.Corrupted }
   good-until cs c ds e a w = good-onto cs (c ∷ ds) e a ∙ rw (good-wrong c ds e w, append-nil)
 
 -- ---- what the walk finds, step by step
 
 -- what stands at o, as a reader finds it, and then the walk from the next chunk on
 abbrev pub finds_at : List ℕ → ℕ → Step → Found
-finds_at page o step.End = nothing_more Fine
-finds_at page o step.Corrupted = nothing_more (Refused row.Corrupted)
-finds_at page o (step.Chunk len crc next) = and_then (payload_at page o len) (walk_finds page next)
+finds_at page o (Ok None) = nothing_more (Ok tt)
+finds_at page o (Err w) = nothing_more (Err row.Corrupted)
+finds_at page o (Ok (Some chunk)) = and_then (payload_at page o chunk.len) (walk_finds page chunk.next)
 
 abbrev good_in : List ℕ → Walked → Found
 good_in page w = good_part page w.chunks w.ending
@@ -72,24 +71,24 @@ pub finds-step : (page : List ℕ) (o : ℕ) → walk_finds page o ≡ finds_at 
 finds-step page o = by (chunk_at page o) refl
   where
     by : (x : Step) → chunk_at page o ≡ x → walk_finds page o ≡ finds_at page o (checked_at page o)
-    by step.End e = ap (good_in page) (walk-end page o e) ∙ good_none page (ending.EndAt o) ∙ rw (checked-end page o e)
-    by step.Corrupted e = ap (good_in page) (walk-bad page o e) ∙ good_none page ending.Corrupted ∙ rw (checked-bad page o e)
-    by (step.Chunk len crc next) e =
-        let c : Chunk = record { offset = o; len = len; crc = crc } in
-        let rest = walk_from page next in
-        ap (good_in page) (walk-chunk page o len crc next e)
+    by (Ok None) e = ap (good_in page) (walk-end page o e) ∙ good_none page (Ok o) ∙ rw (checked-end page o e)
+    by (Err w) e = ap (good_in page) (walk-bad page o e) ∙ good_none page (Err corruption) ∙ rw (checked-bad page o e)
+    by (Ok (Some chunk)) e =
+        let c : Chunk = record { offset = o; len = chunk.len; crc = chunk.crc } in
+        let rest = walk_from page chunk.next in
+        ap (good_in page) (walk-chunk page o chunk.len chunk.crc chunk.next e)
         ∙ ⊎_elim
         (λ (r : sum_right page c ≡ true).
-        good_right page c rest.chunks rest.ending r ∙ rw (checked-right page o len crc next e r))
+        good_right page c rest.chunks rest.ending r ∙ rw (checked-right page o chunk.len chunk.crc chunk.next e r))
         (λ (r : sum_right page c ≡ false).
-        good-wrong page c rest.chunks rest.ending r ∙ rw (checked-wrong page o len crc next e r))
+        good-wrong page c rest.chunks rest.ending r ∙ rw (checked-wrong page o chunk.len chunk.crc chunk.next e r))
         (decided (sum_right page c))
 
 -- ---- two pages that agree
 
 module _ (p q : List ℕ) where
   -- a chunk before e has the same payload, and so the same sum
-  pub good-same : (o e : ℕ) (cs : List Chunk) (x : Ending) → All (Placed o e) cs → take e q ≡ take e p → good_part q cs x ≡ good_part p cs x
+  pub good-same : (o e : ℕ) (cs : List Chunk) (x : Result ℕ Corrupted) → All (Placed o e) cs → take e q ≡ take e p → good_part q cs x ≡ good_part p cs x
   unfolding good_part
   good-same o e [] x a s = refl
   good-same o e (c ∷ cs) x a s =
@@ -97,7 +96,7 @@ module _ (p q : List ℕ) where
 
   -- FINDS ONTO: where q agrees with p below the end of p's walk, and p's sums are right, q has p's payloads, and then what stands at
   -- that end on q
-  pub finds-onto : (o e : ℕ) → o % align ≡ 0 → (walk_from p o).ending ≡ ending.EndAt e → take e q ≡ take e p → All (Right p) (walk_from p o).chunks
+  pub finds-onto : (o e : ℕ) → o % align ≡ 0 → (walk_from p o).ending ≡ Ok e → take e q ≡ take e p → All (Right p) (walk_from p o).chunks
       → walk_finds q o ≡ onto (map (payload_of p) (walk_from p o).chunks) (walk_finds q e)
   finds-onto o e g h s right =
       let cs = (walk_from p o).chunks in

@@ -1,4 +1,5 @@
 -- How a reader moves: where it arrives, what is left of its chunk, and that each move goes up within the page. Assumes nothing.
+use Rattle.std.specs.Prelude.{Ok, Err, Some, None}
 use mathlib.Core.Path.{◌≡◌, refl, sym, ◌∙◌}
 use mathlib.Core.Bool.{Bool, true, false}
 use mathlib.Core.List.{List, []}
@@ -10,18 +11,17 @@ use lib.Seq.{take_all}
 use borrow.Author.Tests.{eq-eqb, ne_eqb}
 use Rattle.types.specs.Build.{page_size, chunk_header_size}
 use Rattle.types.proofs.TestLaws.{decided, eq-or-ne}
-use Rattle.page.specs.Chunks.{next_offset, payload_at, checked_at}
-use Rattle.page.specs.declared.chunk.Step.{Step}
-use Rattle.page.specs.declared.chunk.Step.TheVariants as step
+use Rattle.page.specs.Chunks.{next_offset, payload_at, checked_at, Step, found_chunk}
 use Rattle.page.proofs.ChunkLaws.{chunk-found, checked-found}
+use Rattle.std.specs.declared.result.Result.{Result}
+use Rattle.types.specs.declared.refusal.Corrupted.{Corrupted}
 use Rattle.reader.specs.Moves.{Whole, arriving, moved, ready, rest_of}
-use Rattle.reader.specs.declared.moves.Arrived.TheVariants.{At}
 use Rattle.reader.specs.declared.page_reader.PageReader.{PageReader}
 
 -- ---- before a read
 
 module _ (page : List ℕ) (r : PageReader) where
-  pub ready-ended : r.ended ≡ true → ready page r ≡ At r
+  pub ready-ended : r.ended ≡ true → ready page r ≡ Ok r
   unfolding ready
   ready-ended e = rw e
 
@@ -29,7 +29,7 @@ module _ (page : List ℕ) (r : PageReader) where
   unfolding ready
   ready-used e f = rw (e, eq-eqb r.position r.len f)
 
-  pub ready-in : r.ended ≡ false → (r.position ≡ r.len → ⊥) → ready page r ≡ At r
+  pub ready-in : r.ended ≡ false → (r.position ≡ r.len → ⊥) → ready page r ≡ Ok r
   unfolding ready
   ready-in e n = rw (e, ne_eqb r.position r.len n)
 
@@ -66,17 +66,17 @@ pub record Arriving (page : List ℕ) (r : PageReader) (o : ℕ) (s : PageReader
   pub at : s.offset ≡ o
   pub end_kept : s.ended ≡ true → s.position ≡ r.position
   pub chunk_start : s.ended ≡ false → s.position ≡ 0
-  pub chunk : s.ended ≡ false → checked_at page o ≡ step.Chunk s.len s.crc (next_offset o s.len)
+  pub chunk : s.ended ≡ false → checked_at page o ≡ found_chunk s.len s.crc (next_offset o s.len)
 
 -- a test that holds does not fail
 pub apart : {t : Bool} → t ≡ true → t ≡ false → ⊥
 apart e f = let z : ◌≡◌ {A = ℕ} 0 1 = cc in omega arith
 
-pub arriving-known : (page : List ℕ) (r : PageReader) (o : ℕ) (s : PageReader) → arriving r o (checked_at page o) ≡ At s → Arriving page r o s
+pub arriving-known : (page : List ℕ) (r : PageReader) (o : ℕ) (s : PageReader) → arriving r o (checked_at page o) ≡ Ok s → Arriving page r o s
 arriving-known page r o s e = by (checked_at page o) refl e
   where
-    by : (t : Step) → checked_at page o ≡ t → arriving r o t ≡ At s → Arriving page r o s
-    by step.End c e =
+    by : (t : Step) → checked_at page o ≡ t → arriving r o t ≡ Ok s → Arriving page r o s
+    by (Ok None) c e =
         let ended : s.ended ≡ true = cc in
         record {
           page-kept = cc;
@@ -85,12 +85,12 @@ arriving-known page r o s e = by (checked_at page o) refl e
           chunk_start = λ f. absurd (apart ended f);
           chunk = λ f. absurd (apart ended f);
         }
-    by step.Corrupted c e = let z : ◌≡◌ {A = ℕ} 0 1 = cc in absurd (omega arith)
-    by (step.Chunk len crc next) c e =
+    by (Err w) c e = let z : ◌≡◌ {A = ℕ} 0 1 = cc in absurd (omega arith)
+    by (Ok (Some found)) c e =
         let ended : s.ended ≡ false = cc in
-        let l : s.len ≡ len = cc in
-        let m : s.crc ≡ crc = cc in
-        let n : next ≡ next_offset o len = (chunk-found page o len crc next (checked-found page o len crc next c).0).after in
+        let l : s.len ≡ found.len = cc in
+        let m : s.crc ≡ found.crc = cc in
+        let n : found.next ≡ next_offset o found.len = (chunk-found page o found.len found.crc found.next (checked-found page o found.len found.crc found.next c).0).after in
         record {
           page-kept = cc;
           at = cc;
@@ -108,20 +108,20 @@ arriving-whole page r o s k e =
     let fits : o + 8 + s.len ≤ page_size = f.fits in
     (omega arith, omega arith)
 
-pub moved-known : (page : List ℕ) (r s : PageReader) → moved page r ≡ At s → Arriving page r (next_offset r.offset r.len) s
+pub moved-known : (page : List ℕ) (r s : PageReader) → moved page r ≡ Ok s → Arriving page r (next_offset r.offset r.len) s
 unfolding moved
 moved-known page r s e = arriving-known page r (next_offset r.offset r.len) s e
 
 -- a move goes up by at least a header
-pub moved_up : (page : List ℕ) (r s : PageReader) → moved page r ≡ At s → r.offset + chunk_header_size + r.len ≤ s.offset
+pub moved_up : (page : List ℕ) (r s : PageReader) → moved page r ≡ Ok s → r.offset + chunk_header_size + r.len ≤ s.offset
 moved_up page r s e = let at : s.offset ≡ next_offset r.offset r.len = (moved-known page r s e).at in omega arith
 
-pub moved-whole : (page : List ℕ) (r s : PageReader) → moved page r ≡ At s → Whole s
+pub moved-whole : (page : List ℕ) (r s : PageReader) → moved page r ≡ Ok s → Whole s
 moved-whole page r s e = arriving-whole page r (next_offset r.offset r.len) s (moved-known page r s e)
 
 -- the reader before a read: the one that it was, or one that has moved
-pub ready-known : (page : List ℕ) (r s : PageReader) → ready page r ≡ At s
-    → (s ≡ r) ⊎ ((r.ended ≡ false) × ((r.position ≡ r.len) × (moved page r ≡ At s)))
+pub ready-known : (page : List ℕ) (r s : PageReader) → ready page r ≡ Ok s
+    → (s ≡ r) ⊎ ((r.ended ≡ false) × ((r.position ≡ r.len) × (moved page r ≡ Ok s)))
 ready-known page r s e =
     ⊎_elim
     (λ f. inl (same (sym (ready-ended page r f) ∙ e)))
@@ -132,11 +132,11 @@ ready-known page r s e =
     (eq-or-ne r.position r.len))
     (decided r.ended)
   where
-    same : At r ≡ At s → s ≡ r
+    same : ◌≡◌ {A = Result PageReader Corrupted} (Ok r) (Ok s) → s ≡ r
     same e = cc
 
-pub ready-whole : (page : List ℕ) (r s : PageReader) → Whole r → ready page r ≡ At s → Whole s
+pub ready-whole : (page : List ℕ) (r s : PageReader) → Whole r → ready page r ≡ Ok s → Whole s
 ready-whole page r s w e = ⊎_elim (λ f. rw f w) (λ k. moved-whole page r s k.1.1) (ready-known page r s e)
 
-pub ready-end-kept : (page : List ℕ) (r s : PageReader) → ready page r ≡ At s → s.ended ≡ true → s.position ≡ r.position
+pub ready-end-kept : (page : List ℕ) (r s : PageReader) → ready page r ≡ Ok s → s.ended ≡ true → s.position ≡ r.position
 ready-end-kept page r s e f = ⊎_elim (λ g. rw g) (λ k. (moved-known page r s k.1.1).end_kept f) (ready-known page r s e)

@@ -1,4 +1,8 @@
 -- In range stays in range, call by call; and a reader is in range once it is opened. Assumes nothing.
+use Rattle.std.specs.Prelude.{Ok, Err}
+use Rattle.types.specs.Checks.{corruption}
+use Rattle.std.specs.declared.result.Result.{Result}
+use Rattle.types.specs.declared.refusal.Corrupted.{Corrupted}
 use mathlib.Core.Path.{◌≡◌, refl}
 use mathlib.Core.Bool.{Bool, true, false, ◌||◌, cond}
 use mathlib.Core.List.{List}
@@ -7,10 +11,8 @@ use Prim.Native.Nat.{ℕ, zero, suc, ◌+◌, ◌-◌, ◌%◌, ◌≤◌, ◌<�
 use native.Mathlib.Omega.{arith}
 use lib.ListN.{length}
 use Rattle.types.specs.Build.{page_header_size, align, max_page_count}
-use Rattle.types.specs.Checks.{refused_or}
+use Rattle.types.specs.Checks.{refused_or, Verdict}
 use Rattle.types.specs.declared.page_id.PageID.{PageID}
-use Rattle.types.specs.declared.refusal.Verdict.{Verdict}
-use Rattle.types.specs.declared.refusal.Verdict.TheVariants.{Fine, Refused}
 use Rattle.types.proofs.TestLaws.{decided, le-or-lt}
 use Rattle.flash.specs.Geometry.{page_of}
 use Rattle.page.specs.Checks.{open_check}
@@ -21,13 +23,9 @@ use Rattle.reader.specs.Calls.{refused_passage, read, read_of, skip, passage_of,
 use Rattle.reader.specs.Checks.{in_range, reader_check}
 use Rattle.reader.specs.Moves.{arriving, moved, ready, rest_of, past, onward, skip_by, skipped}
 use Rattle.reader.specs.States.{new_reader, unread, restored}
-use Rattle.types.specs.declared.answers.Outcome.TheVariants as outcome
 use Rattle.reader.specs.declared.answers.Passage.{Passage}
 use Rattle.reader.specs.declared.dehydrated.DehydratedPageReader.{DehydratedPageReader}
-use Rattle.reader.specs.declared.moves.Arrived.{Arrived}
-use Rattle.reader.specs.declared.moves.Arrived.TheVariants.{At, Corrupted}
 use Rattle.reader.specs.declared.moves.Passed.{Passed}
-use Rattle.reader.specs.declared.moves.Passed.TheVariants as passed
 use Rattle.reader.specs.declared.page_reader.PageReader.{PageReader}
 use Rattle.reader.proofs.CheckLaws.{InRange, range-known, range-in, reader-checked}
 use Rattle.reader.proofs.MoveLaws.{Arriving, arriving-known, arriving-whole, moved-known, ready-known, rest-within}
@@ -50,15 +48,15 @@ arriving-range page r o s k low group start =
           record { group = rw at group; start = rw at start; fits = w.0; within = w.1 };
     }
 
-pub moved-range : (page : List ℕ) (r s : PageReader) → InRange r → r.ended ≡ false → moved page r ≡ At s → InRange s
+pub moved-range : (page : List ℕ) (r s : PageReader) → InRange r → r.ended ≡ false → moved page r ≡ Ok s → InRange s
 moved-range page r s k e a =
     let start : 12 ≤ r.offset = (k.chunk e).start in
     arriving-range page r (next_offset r.offset r.len) s (moved-known page r s a) k.low (omega arith) (omega arith)
 
-pub ready-range : (page : List ℕ) (r s : PageReader) → InRange r → ready page r ≡ At s → InRange s
+pub ready-range : (page : List ℕ) (r s : PageReader) → InRange r → ready page r ≡ Ok s → InRange s
 ready-range page r s k a = ⊎_elim (λ f. rw f k) (λ m. moved-range page r s k m.0 m.1.1) (ready-known page r s a)
 
-pub ready-page : (page : List ℕ) (r s : PageReader) → ready page r ≡ At s → s.page ≡ r.page
+pub ready-page : (page : List ℕ) (r s : PageReader) → ready page r ≡ Ok s → s.page ≡ r.page
 ready-page page r s a = ⊎_elim (λ f. rw f) (λ m. (moved-known page r s m.1.1).page-kept) (ready-known page r s a)
 
 pub past-range : (page : List ℕ) (r : PageReader) (n : ℕ) → InRange r → n ≤ length (rest_of page r) → InRange (past r n)
@@ -72,14 +70,14 @@ past-range page r n k h =
 
 -- ---- a skip
 
-abbrev RangeOf : Passed → Type 0
-RangeOf (passed.To s left) = InRange s
-RangeOf passed.Corrupted = Unit
+abbrev RangeOf : Result Passed Corrupted → Type 0
+RangeOf (Ok passed') = InRange passed'.reader
+RangeOf (Err w) = Unit
 
 module _ (page : List ℕ) where
-  onward-range : (f : PageReader → Passed) (a : Arrived) → ((s : PageReader) → a ≡ At s → RangeOf (f s)) → RangeOf (onward f a)
-  onward-range f (At s) h = h s refl
-  onward-range f Corrupted h = tt
+  onward-range : (f : PageReader → (Result Passed Corrupted)) (a : Result PageReader Corrupted) → ((s : PageReader) → a ≡ Ok s → RangeOf (f s)) → RangeOf (onward f a)
+  onward-range f (Ok s) h = h s refl
+  onward-range f (Err w) h = tt
 
   by-range : (n count : ℕ) (r : PageReader) → InRange r → RangeOf (skip_by n page count r)
   unfolding skip_by
@@ -98,16 +96,16 @@ module _ (page : List ℕ) where
       (le-or-lt count left))
       (decided r.ended)
 
-  pub skip_range : (count : ℕ) (r s : PageReader) (left : ℕ) → InRange r → skipped page count r ≡ passed.To s left → InRange s
+  pub skip_range : (count : ℕ) (r s : PageReader) (left : ℕ) → InRange r → skipped page count r ≡ Ok (record { reader = s; left = left }) → InRange s
   unfolding skipped
   skip_range count r s left k e = rw e at (by-range 513 count r k)
 
 -- ---- the calls
 
 module _ (r : PageReader) (flash : List ℕ) (k : in_range r ≡ true) where
-  range-after : (v : Verdict) (work : Passage) → InRange work.reader → in_range (refused_or v (refused_passage r) work).reader ≡ true
-  range-after Fine work h = range-in work.reader h
-  range-after (Refused w) work h = k
+  range-after : (v : Verdict) (work : Passage ℕ) → InRange work.reader → in_range (refused_or v (refused_passage r) work).reader ≡ true
+  range-after (Ok tt) work h = range-in work.reader h
+  range-after (Err w) work h = k
 
   pub read-in-range : (room : ℕ) → in_range (read r flash room).reader ≡ true
   unfolding read
@@ -115,9 +113,9 @@ module _ (r : PageReader) (flash : List ℕ) (k : in_range r ≡ true) where
       let page = page_of r.page.0 flash in
       range-after (reader_check (length flash) r) (read_of page r room (ready page r)) (by page (ready page r) refl)
     where
-      by : (page : List ℕ) (a : Arrived) → ready page r ≡ a → InRange (read_of page r room a).reader
-      by page (At s) e = past-range page s (min room (length (rest_of page s))) (ready-range page r s (range-known r k) e) (omega arith)
-      by page Corrupted e = range-known r k
+      by : (page : List ℕ) (a : Result PageReader Corrupted) → ready page r ≡ a → InRange (read_of page r room a).reader
+      by page (Ok s) e = past-range page s (min room (length (rest_of page s))) (ready-range page r s (range-known r k) e) (omega arith)
+      by page (Err w) e = range-known r k
 
   pub skip-in-range : (n : ℕ) → in_range (skip r flash n).reader ≡ true
   unfolding skip
@@ -125,21 +123,21 @@ module _ (r : PageReader) (flash : List ℕ) (k : in_range r ≡ true) where
       let page = page_of r.page.0 flash in
       range-after (reader_check (length flash) r) (passage_of r n (skipped page n r)) (by page (skipped page n r) refl)
     where
-      by : (page : List ℕ) (p : Passed) → skipped page n r ≡ p → InRange (passage_of r n p).reader
-      by page (passed.To s left) e = skip_range page n r s left (range-known r k) e
-      by page passed.Corrupted e = range-known r k
+      by : (page : List ℕ) (p : Result Passed Corrupted) → skipped page n r ≡ p → InRange (passage_of r n p).reader
+      by page (Ok passed') e = skip_range page n r passed'.reader passed'.left (range-known r k) e
+      by page (Err w) e = range-known r k
 
   pub eof-in-range : in_range (is_at_eof r flash).reader ≡ true
   unfolding is_at_eof
   eof-in-range = by (reader_check (length flash) r) (page_of r.page.0 flash) (ready (page_of r.page.0 flash) r) refl
     where
-      by : (v : Verdict) (page : List ℕ) (a : Arrived) → ready page r ≡ a → in_range (refused_or v (refused_end_test r) (tested r a)).reader ≡ true
-      by (Refused w) page a e = k
-      by Fine page (At s) e = range-in s (ready-range page r s (range-known r k) e)
-      by Fine page Corrupted e = k
+      by : (v : Verdict) (page : List ℕ) (a : Result PageReader Corrupted) → ready page r ≡ a → in_range (refused_or v (refused_end_test r) (tested r a)).reader ≡ true
+      by (Err w) page a e = k
+      by (Ok tt) page (Ok s) e = range-in s (ready-range page r s (range-known r k) e)
+      by (Ok tt) page (Err w) e = k
 
 -- opened, or brought back: whatever the reader was
-pub open-in-range : (r : PageReader) (flash : List ℕ) (magic : ℕ) (page : PageID) (h : ℕ) → (open_page r flash magic page h).answer ≡ outcome.Done
+pub open-in-range : (r : PageReader) (flash : List ℕ) (magic : ℕ) (page : PageID) (h : ℕ) → (open_page r flash magic page h).answer ≡ Ok tt
     → in_range (open_page r flash magic page h).reader ≡ true
 unfolding open_page
 open-in-range r flash magic page h e =
@@ -148,26 +146,26 @@ open-in-range r flash magic page h e =
     bytes : List ℕ
     bytes = page_of page.0 flash
 
-    by : (v : Verdict) → open_check (length flash) h page ≡ v → (t : Bool) (a : Arrived) → arriving (unread page) (12 + h) (checked_at bytes (12 + h)) ≡ a
-        → (refused_or v (refused_opening r) (opening_of r (cond t a Corrupted))).answer ≡ outcome.Done
-        → in_range (refused_or v (refused_opening r) (opening_of r (cond t a Corrupted))).reader ≡ true
-    by (Refused w) f t a g e = let z : ◌≡◌ {A = ℕ} 0 1 = cc in absurd (omega arith)
-    by Fine f false a g e = let z : ◌≡◌ {A = ℕ} 0 1 = cc in absurd (omega arith)
-    by Fine f true Corrupted g e = let z : ◌≡◌ {A = ℕ} 0 1 = cc in absurd (omega arith)
-    by Fine f true (At s) g e =
+    by : (v : Verdict) → open_check (length flash) h page ≡ v → (t : Bool) (a : Result PageReader Corrupted) → arriving (unread page) (12 + h) (checked_at bytes (12 + h)) ≡ a
+        → (refused_or v (refused_opening r) (opening_of r (cond t a (Err corruption)))).answer ≡ Ok tt
+        → in_range (refused_or v (refused_opening r) (opening_of r (cond t a (Err corruption)))).reader ≡ true
+    by (Err w) f t a g e = let z : ◌≡◌ {A = ℕ} 0 1 = cc in absurd (omega arith)
+    by (Ok tt) f false a g e = let z : ◌≡◌ {A = ℕ} 0 1 = cc in absurd (omega arith)
+    by (Ok tt) f true (Err w) g e = let z : ◌≡◌ {A = ℕ} 0 1 = cc in absurd (omega arith)
+    by (Ok tt) f true (Ok s) g e =
         let o = open-checked (length flash) h page f in
         let group : h % 4 ≡ 0 = o.group in
         range-in s (arriving-range bytes (unread page) (12 + h) s (arriving-known bytes (unread page) (12 + h) s g) o.flash.low (omega arith) (omega arith))
 
-pub rehydrate-in-range : (r : PageReader) (flash : List ℕ) (d : DehydratedPageReader) → (rehydrate_from r flash d).answer ≡ outcome.Done
+pub rehydrate-in-range : (r : PageReader) (flash : List ℕ) (d : DehydratedPageReader) → (rehydrate_from r flash d).answer ≡ Ok tt
     → in_range (rehydrate_from r flash d).reader ≡ true
 unfolding rehydrate_from
 rehydrate-in-range r flash d e =
     by (reader_check (length flash) (restored d)) refl ((restored d).ended || payload_fine (page_of d.page.0 flash) d.offset d.len d.crc) e
   where
     by : (v : Verdict) → reader_check (length flash) (restored d) ≡ v → (t : Bool)
-        → (refused_or v (refused_opening r) (opening_of r (cond t (At (restored d)) Corrupted))).answer ≡ outcome.Done
-        → in_range (refused_or v (refused_opening r) (opening_of r (cond t (At (restored d)) Corrupted))).reader ≡ true
-    by (Refused w) f t e = let z : ◌≡◌ {A = ℕ} 0 1 = cc in absurd (omega arith)
-    by Fine f false e = let z : ◌≡◌ {A = ℕ} 0 1 = cc in absurd (omega arith)
-    by Fine f true e = range-in (restored d) (reader-checked (length flash) (restored d) f).range
+        → (refused_or v (refused_opening r) (opening_of r (cond t (Ok (restored d)) (Err corruption)))).answer ≡ Ok tt
+        → in_range (refused_or v (refused_opening r) (opening_of r (cond t (Ok (restored d)) (Err corruption)))).reader ≡ true
+    by (Err w) f t e = let z : ◌≡◌ {A = ℕ} 0 1 = cc in absurd (omega arith)
+    by (Ok tt) f false e = let z : ◌≡◌ {A = ℕ} 0 1 = cc in absurd (omega arith)
+    by (Ok tt) f true e = range-in (restored d) (reader-checked (length flash) (restored d) f).range

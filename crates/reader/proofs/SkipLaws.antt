@@ -1,4 +1,8 @@
 -- Skipping needs no bound on its chunks, and goes step by step. Assumes nothing.
+use Rattle.std.specs.Prelude.{Ok, Err}
+use Rattle.types.specs.Checks.{corruption}
+use Rattle.std.specs.declared.result.Result.{Result}
+use Rattle.types.specs.declared.refusal.Corrupted.{Corrupted}
 use mathlib.Core.Path.{◌≡◌, refl, sym, ap, ◌∙◌}
 use mathlib.Core.Bool.{true, false}
 use mathlib.Core.List.{List}
@@ -10,10 +14,7 @@ use borrow.Author.Tests.{le-leb, lt-leb}
 use Rattle.types.specs.Build.{page_size, chunk_header_size}
 use Rattle.types.proofs.TestLaws.{decided, le-or-lt}
 use Rattle.reader.specs.Moves.{Whole, moved, rest_of, past, onward, skip_by, skipped}
-use Rattle.reader.specs.declared.moves.Arrived.{Arrived}
-use Rattle.reader.specs.declared.moves.Arrived.TheVariants.{At, Corrupted}
 use Rattle.reader.specs.declared.moves.Passed.{Passed}
-use Rattle.reader.specs.declared.moves.Passed.TheVariants as passed
 use Rattle.reader.specs.declared.page_reader.PageReader.{PageReader}
 use Rattle.reader.proofs.MoveLaws.{moved_up, moved-whole}
 
@@ -22,12 +23,12 @@ module _ (page : List ℕ) where
   abbrev Enough : ℕ → PageReader → Type 0
   Enough n r = r.ended ≡ false → page_size < r.offset + chunk_header_size + chunk_header_size * n
 
-  pub by-ended : (n count : ℕ) (r : PageReader) → r.ended ≡ true → skip_by n page count r ≡ passed.To r count
+  pub by-ended : (n count : ℕ) (r : PageReader) → r.ended ≡ true → skip_by n page count r ≡ Ok (record { reader = r; left = count })
   unfolding skip_by
   by-ended zero count r e = refl
   by-ended (suc n) count r e = rw e
 
-  pub by-here : (n count : ℕ) (r : PageReader) → r.ended ≡ false → count ≤ length (rest_of page r) → skip_by (suc n) page count r ≡ passed.To (past r count) 0
+  pub by-here : (n count : ℕ) (r : PageReader) → r.ended ≡ false → count ≤ length (rest_of page r) → skip_by (suc n) page count r ≡ Ok (record { reader = past r count; left = 0 })
   unfolding skip_by
   by-here n count r e h = rw (le-leb count (length (rest_of page r)) h, e)
 
@@ -36,9 +37,9 @@ module _ (page : List ℕ) where
   unfolding skip_by
   by-on n count r e h = rw (lt-leb count (length (rest_of page r)) h, e)
 
-  onward-same : (a : Arrived) (f g : PageReader → Passed) → ((s : PageReader) → a ≡ At s → f s ≡ g s) → onward f a ≡ onward g a
-  onward-same (At s) f g h = h s refl
-  onward-same Corrupted f g h = refl
+  onward-same : (a : Result PageReader Corrupted) (f g : PageReader → (Result Passed Corrupted)) → ((s : PageReader) → a ≡ Ok s → f s ≡ g s) → onward f a ≡ onward g a
+  onward-same (Ok s) f g h = h s refl
+  onward-same (Err w) f g h = refl
 
   step_same : (m n count : ℕ) (r : PageReader) → r.ended ≡ false
       → ((s : PageReader) → r.offset + chunk_header_size ≤ s.offset → Whole s → skip_by m page (count - length (rest_of page r)) s ≡ skip_by n page (count - length (rest_of page r)) s)
@@ -68,17 +69,17 @@ module _ (page : List ℕ) where
 
   -- ---- what is not passed was asked for
 
-  abbrev LeftOf : ℕ → Passed → Type 0
-  LeftOf count (passed.To s left) = left ≤ count
-  LeftOf count passed.Corrupted = Unit
+  abbrev LeftOf : ℕ → Result Passed Corrupted → Type 0
+  LeftOf count (Ok passed') = passed'.left ≤ count
+  LeftOf count (Err w) = Unit
 
-  onward-left : (n count left : ℕ) (a : Arrived) → left ≤ count → ((s : PageReader) → LeftOf left (skip_by n page left s)) → LeftOf count (onward (skip_by n page left) a)
-  onward-left n count left Corrupted h rest = tt
-  onward-left n count left (At s) h rest = weaker (skip_by n page left s) (rest s)
+  onward-left : (n count left : ℕ) (a : Result PageReader Corrupted) → left ≤ count → ((s : PageReader) → LeftOf left (skip_by n page left s)) → LeftOf count (onward (skip_by n page left) a)
+  onward-left n count left (Err w) h rest = tt
+  onward-left n count left (Ok s) h rest = weaker (skip_by n page left s) (rest s)
     where
-      weaker : (p : Passed) → LeftOf left p → LeftOf count p
-      weaker (passed.To t k) l = omega arith
-      weaker passed.Corrupted l = tt
+      weaker : (p : Result Passed Corrupted) → LeftOf left p → LeftOf count p
+      weaker (Ok passed') l = omega arith
+      weaker (Err w) l = tt
 
   by_left : (n count : ℕ) (r : PageReader) → LeftOf count (skip_by n page count r)
   unfolding skip_by
@@ -94,27 +95,27 @@ module _ (page : List ℕ) where
       (le-or-lt count left))
       (decided r.ended)
 
-  pub skip-left : (count : ℕ) (r s : PageReader) (left : ℕ) → skipped page count r ≡ passed.To s left → left ≤ count
+  pub skip-left : (count : ℕ) (r s : PageReader) (left : ℕ) → skipped page count r ≡ Ok (record { reader = s; left = left }) → left ≤ count
   unfolding skipped
   skip-left count r s left e = rw e at (by_left 513 count r)
 
   -- ---- one step
 
   module _ (count : ℕ) (r : PageReader) where
-    pub skip-ended : r.ended ≡ true → skipped page count r ≡ passed.To r count
+    pub skip-ended : r.ended ≡ true → skipped page count r ≡ Ok (record { reader = r; left = count })
     unfolding skipped
     skip-ended e = by-ended 513 count r e
 
-    pub skip-here : r.ended ≡ false → count ≤ length (rest_of page r) → skipped page count r ≡ passed.To (past r count) 0
+    pub skip-here : r.ended ≡ false → count ≤ length (rest_of page r) → skipped page count r ≡ Ok (record { reader = past r count; left = 0 })
     unfolding skipped
     skip-here e h = by-here 512 count r e h
 
-    pub skip-bad : r.ended ≡ false → length (rest_of page r) < count → moved page (past r (length (rest_of page r))) ≡ Corrupted
-        → skipped page count r ≡ passed.Corrupted
+    pub skip-bad : r.ended ≡ false → length (rest_of page r) < count → moved page (past r (length (rest_of page r))) ≡ Err corruption
+        → skipped page count r ≡ Err corruption
     unfolding skipped
     skip-bad e h a = by-on 512 count r e h ∙ rw a
 
-    pub skip-on : (s : PageReader) → r.ended ≡ false → length (rest_of page r) < count → moved page (past r (length (rest_of page r))) ≡ At s
+    pub skip-on : (s : PageReader) → r.ended ≡ false → length (rest_of page r) < count → moved page (past r (length (rest_of page r))) ≡ Ok s
         → skipped page count r ≡ skipped page (count - length (rest_of page r)) s
     unfolding skipped
     skip-on s e h a =

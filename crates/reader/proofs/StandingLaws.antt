@@ -1,5 +1,10 @@
 -- A reader that was opened, and moved on by calls on the same flash, stands in a chunk of the walk from where it was opened, and that
 -- chunk's sum is right. Assumes nothing.
+use Rattle.std.specs.Prelude.{Ok, Err}
+use Rattle.types.specs.Checks.{corruption}
+use Rattle.std.specs.declared.result.Result.{Result}
+use Rattle.types.specs.declared.refusal.Corrupted.{Corrupted}
+use Rattle.types.specs.declared.refusal.Refusal.{Refusal}
 use mathlib.Core.Path.{◌≡◌, refl, sym, ap, subst, ◌∙◌}
 use mathlib.Core.Bool.{Bool, true, false, cond, ◌||◌}
 use mathlib.Core.List.{List, [], ◌∷◌, ◌++◌, append_assoc}
@@ -8,10 +13,8 @@ use Prim.Native.Nat.{ℕ, zero, suc, ◌+◌, ◌-◌, ◌≤◌, min}
 use native.Mathlib.Omega.{arith}
 use lib.ListN.{length, take, drop, length-take, length-drop}
 use Rattle.types.specs.Build.{page_header_size}
-use Rattle.types.specs.Checks.{refused_or}
+use Rattle.types.specs.Checks.{refused_or, Verdict}
 use Rattle.types.specs.declared.page_id.PageID.{PageID}
-use Rattle.types.specs.declared.refusal.Verdict.{Verdict}
-use Rattle.types.specs.declared.refusal.Verdict.TheVariants.{Fine, Refused}
 use Rattle.types.proofs.TestLaws.{decided, le-or-lt}
 use Rattle.flash.specs.Geometry.{page_of}
 use Rattle.slices.specs.Patch.{over}
@@ -28,14 +31,8 @@ use Rattle.reader.specs.Checks.{reader_check}
 use Rattle.reader.specs.Finds.{payload_of, sum_right}
 use Rattle.reader.specs.Moves.{arriving, moved, ready, rest_of, past, onward, skip_by, skipped}
 use Rattle.reader.specs.States.{unread, restored}
-use Rattle.reader.specs.declared.answers.Count.{Count}
-use Rattle.reader.specs.declared.answers.Count.TheVariants as count
-use Rattle.types.specs.declared.answers.Outcome.TheVariants as outcome
 use Rattle.reader.specs.declared.dehydrated.DehydratedPageReader.{DehydratedPageReader}
-use Rattle.reader.specs.declared.moves.Arrived.{Arrived}
-use Rattle.reader.specs.declared.moves.Arrived.TheVariants.{At, Corrupted}
 use Rattle.reader.specs.declared.moves.Passed.{Passed}
-use Rattle.reader.specs.declared.moves.Passed.TheVariants as passed
 use Rattle.reader.specs.declared.page_reader.PageReader.{PageReader}
 use Rattle.reader.proofs.MoveLaws.{Arriving, arriving-known, moved-known, ready-known, rest_in, rest_ended}
 use Rattle.reader.proofs.SkipLaws.{by-ended, by-here, by-on}
@@ -81,21 +78,21 @@ abbrev pub Stands : PageID → List ℕ → ℕ → PageReader → Type 0
 Stands page bytes o r = (r.page ≡ page) × (r.ended ≡ false → GoodChunk bytes o (own_chunk r))
 
 module _ (page : PageID) (bytes : List ℕ) (o : ℕ) where
-  moved-stands : (r s : PageReader) → r.ended ≡ false → Stands page bytes o r → moved bytes r ≡ At s → Stands page bytes o s
+  moved-stands : (r s : PageReader) → r.ended ≡ false → Stands page bytes o r → moved bytes r ≡ Ok s → Stands page bytes o s
   moved-stands r s e k a =
       let m = moved-known bytes r s a in
       (m.page-kept ∙ k.0, λ f. chunk_next bytes o (own_chunk r) r s (k.1 e) m f)
 
-  ready-stands : (r s : PageReader) → Stands page bytes o r → ready bytes r ≡ At s → Stands page bytes o s
+  ready-stands : (r s : PageReader) → Stands page bytes o r → ready bytes r ≡ Ok s → Stands page bytes o s
   ready-stands r s k a = ⊎_elim (λ f. rw f k) (λ m. moved-stands r s m.0 k m.1.1) (ready-known bytes r s a)
 
-  abbrev StandsOf : Passed → Type 0
-  StandsOf (passed.To s left) = Stands page bytes o s
-  StandsOf passed.Corrupted = Unit
+  abbrev StandsOf : Result Passed Corrupted → Type 0
+  StandsOf (Ok passed') = Stands page bytes o passed'.reader
+  StandsOf (Err w) = Unit
 
-  onward-stands : (f : PageReader → Passed) (a : Arrived) → ((s : PageReader) → a ≡ At s → StandsOf (f s)) → StandsOf (onward f a)
-  onward-stands f (At s) h = h s refl
-  onward-stands f Corrupted h = tt
+  onward-stands : (f : PageReader → (Result Passed Corrupted)) (a : Result PageReader Corrupted) → ((s : PageReader) → a ≡ Ok s → StandsOf (f s)) → StandsOf (onward f a)
+  onward-stands f (Ok s) h = h s refl
+  onward-stands f (Err w) h = tt
 
   by-stands : (n count : ℕ) (r : PageReader) → Stands page bytes o r → StandsOf (skip_by n bytes count r)
   unfolding skip_by
@@ -118,29 +115,29 @@ module _ (page : PageID) (bytes : List ℕ) (o : ℕ) where
 
   module _ (r : PageReader) (k : Stands page bytes o r) where
     taken-stands : (room : ℕ) (v : Verdict) → Stands page bytes o (refused_or v (refused_passage r) (read_of bytes r room (ready bytes r))).reader
-    taken-stands room (Refused w) = k
-    taken-stands room Fine = by (ready bytes r) refl
+    taken-stands room (Err w) = k
+    taken-stands room (Ok tt) = by (ready bytes r) refl
       where
-        by : (a : Arrived) → ready bytes r ≡ a → Stands page bytes o (read_of bytes r room a).reader
-        by (At s) e = ready-stands r s k e
-        by Corrupted e = k
+        by : (a : Result PageReader Corrupted) → ready bytes r ≡ a → Stands page bytes o (read_of bytes r room a).reader
+        by (Ok s) e = ready-stands r s k e
+        by (Err w) e = k
 
     tested-stands : (v : Verdict) → Stands page bytes o (refused_or v (refused_end_test r) (tested r (ready bytes r))).reader
-    tested-stands (Refused w) = k
-    tested-stands Fine = by (ready bytes r) refl
+    tested-stands (Err w) = k
+    tested-stands (Ok tt) = by (ready bytes r) refl
       where
-        by : (a : Arrived) → ready bytes r ≡ a → Stands page bytes o (tested r a).reader
-        by (At s) e = ready-stands r s k e
-        by Corrupted e = k
+        by : (a : Result PageReader Corrupted) → ready bytes r ≡ a → Stands page bytes o (tested r a).reader
+        by (Ok s) e = ready-stands r s k e
+        by (Err w) e = k
 
     passed-stands : (n : ℕ) (v : Verdict) → Stands page bytes o (refused_or v (refused_passage r) (passage_of r n (skipped bytes n r))).reader
     unfolding skipped
-    passed-stands n (Refused w) = k
-    passed-stands n Fine = by (skip_by 513 bytes n r) (by-stands 513 n r k)
+    passed-stands n (Err w) = k
+    passed-stands n (Ok tt) = by (skip_by 513 bytes n r) (by-stands 513 n r k)
       where
-        by : (p : Passed) → StandsOf p → Stands page bytes o (passage_of r n p).reader
-        by (passed.To s left) h = h
-        by passed.Corrupted h = k
+        by : (p : Result Passed Corrupted) → StandsOf p → Stands page bytes o (passage_of r n p).reader
+        by (Ok passed') h = h
+        by (Err w) h = k
 
 -- ---- the calls
 
@@ -170,7 +167,7 @@ module _ (flash : List ℕ) (page : PageID) (o : ℕ) (r : PageReader) (k : Stan
       (passed-stands page (page_of page.0 flash) o r k n v)
 
 -- an open that is not refused stands in the first chunk behind a good header
-pub open-stands : (r : PageReader) (flash : List ℕ) (magic : ℕ) (page : PageID) (h : ℕ) → (open_page r flash magic page h).answer ≡ outcome.Done
+pub open-stands : (r : PageReader) (flash : List ℕ) (magic : ℕ) (page : PageID) (h : ℕ) → (open_page r flash magic page h).answer ≡ Ok tt
     → (page_header_fine (page_of page.0 flash) magic page.0 h ≡ true)
     × Stands page (page_of page.0 flash) (page_header_size + h) (open_page r flash magic page h).reader
 unfolding open_page
@@ -180,28 +177,28 @@ open-stands r flash magic page h e =
     bytes : List ℕ
     bytes = page_of page.0 flash
 
-    by : (v : Verdict) (t : Bool) → page_header_fine bytes magic page.0 h ≡ t → (a : Arrived) → arriving (unread page) (12 + h) (checked_at bytes (12 + h)) ≡ a
-        → (refused_or v (refused_opening r) (opening_of r (cond t a Corrupted))).answer ≡ outcome.Done
-        → (t ≡ true) × Stands page bytes (12 + h) (refused_or v (refused_opening r) (opening_of r (cond t a Corrupted))).reader
-    by (Refused w) t f a g e = let z : ◌≡◌ {A = ℕ} 0 1 = cc in absurd (omega arith)
-    by Fine false f a g e = let z : ◌≡◌ {A = ℕ} 0 1 = cc in absurd (omega arith)
-    by Fine true f Corrupted g e = let z : ◌≡◌ {A = ℕ} 0 1 = cc in absurd (omega arith)
-    by Fine true f (At s) g e =
+    by : (v : Verdict) (t : Bool) → page_header_fine bytes magic page.0 h ≡ t → (a : Result PageReader Corrupted) → arriving (unread page) (12 + h) (checked_at bytes (12 + h)) ≡ a
+        → (refused_or v (refused_opening r) (opening_of r (cond t a (Err corruption)))).answer ≡ Ok tt
+        → (t ≡ true) × Stands page bytes (12 + h) (refused_or v (refused_opening r) (opening_of r (cond t a (Err corruption)))).reader
+    by (Err w) t f a g e = let z : ◌≡◌ {A = ℕ} 0 1 = cc in absurd (omega arith)
+    by (Ok tt) false f a g e = let z : ◌≡◌ {A = ℕ} 0 1 = cc in absurd (omega arith)
+    by (Ok tt) true f (Err w) g e = let z : ◌≡◌ {A = ℕ} 0 1 = cc in absurd (omega arith)
+    by (Ok tt) true f (Ok s) g e =
         let m = arriving-known bytes (unread page) (12 + h) s g in
         (refl, (m.page-kept, λ q. chunk-first bytes (12 + h) (unread page) s m q))
 
 -- rehydrate_from hands back the kept reader, where it is not refused
-pub rehydrate-restores : (r : PageReader) (flash : List ℕ) (d : DehydratedPageReader) → (rehydrate_from r flash d).answer ≡ outcome.Done
+pub rehydrate-restores : (r : PageReader) (flash : List ℕ) (d : DehydratedPageReader) → (rehydrate_from r flash d).answer ≡ Ok tt
     → (rehydrate_from r flash d).reader ≡ restored d
 unfolding rehydrate_from
 rehydrate-restores r flash d e =
     by (reader_check (length flash) (restored d)) ((restored d).ended || payload_fine (page_of d.page.0 flash) d.offset d.len d.crc) e
   where
-    by : (v : Verdict) (t : Bool) → (refused_or v (refused_opening r) (opening_of r (cond t (At (restored d)) Corrupted))).answer ≡ outcome.Done
-        → (refused_or v (refused_opening r) (opening_of r (cond t (At (restored d)) Corrupted))).reader ≡ restored d
-    by (Refused w) t e = let z : ◌≡◌ {A = ℕ} 0 1 = cc in absurd (omega arith)
-    by Fine false e = let z : ◌≡◌ {A = ℕ} 0 1 = cc in absurd (omega arith)
-    by Fine true e = refl
+    by : (v : Verdict) (t : Bool) → (refused_or v (refused_opening r) (opening_of r (cond t (Ok (restored d)) (Err corruption)))).answer ≡ Ok tt
+        → (refused_or v (refused_opening r) (opening_of r (cond t (Ok (restored d)) (Err corruption)))).reader ≡ restored d
+    by (Err w) t e = let z : ◌≡◌ {A = ℕ} 0 1 = cc in absurd (omega arith)
+    by (Ok tt) false e = let z : ◌≡◌ {A = ℕ} 0 1 = cc in absurd (omega arith)
+    by (Ok tt) true e = refl
 
 -- ---- what a read puts
 
@@ -223,13 +220,13 @@ pub record Handed (page : List ℕ) (o : ℕ) (lent after : List ℕ) (n : ℕ) 
   pub put : after ≡ take n (drop position (payload_of page chunk)) ++ drop n lent
 
 -- by a read's answer
-abbrev pub HandedBy : List ℕ → ℕ → List ℕ → List ℕ → Count → Type 0
-HandedBy page o lent after (count.Bytes zero) = after ≡ lent
-HandedBy page o lent after (count.Bytes (suc n)) = Handed page o lent after (suc n)
-HandedBy page o lent after (count.Refused why) = after ≡ lent
+abbrev pub HandedBy : List ℕ → ℕ → List ℕ → List ℕ → Result ℕ Refusal → Type 0
+HandedBy page o lent after (Ok zero) = after ≡ lent
+HandedBy page o lent after (Ok (suc n)) = Handed page o lent after (suc n)
+HandedBy page o lent after (Err why) = after ≡ lent
 
 module _ (page : PageID) (bytes : List ℕ) (o : ℕ) (r : PageReader) (k : Stands page bytes o r) (buffer : List ℕ) where
-  some-handed : (s : PageReader) (n : ℕ) → ready bytes r ≡ At s → suc n ≡ min (length buffer) (length (rest_of bytes s))
+  some-handed : (s : PageReader) (n : ℕ) → ready bytes r ≡ Ok s → suc n ≡ min (length buffer) (length (rest_of bytes s))
       → Handed bytes o buffer (over (rest_of bytes s) buffer) (suc n)
   some-handed s n at e =
       let rest = rest_of bytes s in
@@ -251,19 +248,19 @@ module _ (page : PageID) (bytes : List ℕ) (o : ℕ) (r : PageReader) (k : Stan
       })
       (decided s.ended)
 
-  at-handed : (s : PageReader) (n : ℕ) → ready bytes r ≡ At s → n ≡ min (length buffer) (length (rest_of bytes s))
-      → HandedBy bytes o buffer (over (rest_of bytes s) buffer) (count.Bytes n)
+  at-handed : (s : PageReader) (n : ℕ) → ready bytes r ≡ Ok s → n ≡ min (length buffer) (length (rest_of bytes s))
+      → HandedBy bytes o buffer (over (rest_of bytes s) buffer) (Ok n)
   at-handed s zero at e = over-parts (rest_of bytes s) buffer 0 e
   at-handed s (suc n) at e = some-handed s n at e
 
   work-handed : (v : Verdict)
       → HandedBy bytes o buffer (refused_or v (λ _. buffer) (laid_over bytes buffer (ready bytes r))) (refused_or v (refused_passage r) (read_of bytes r (length buffer) (ready bytes r))).answer
-  work-handed (Refused w) = refl
-  work-handed Fine = by (ready bytes r) refl
+  work-handed (Err w) = refl
+  work-handed (Ok tt) = by (ready bytes r) refl
     where
-      by : (a : Arrived) → ready bytes r ≡ a → HandedBy bytes o buffer (laid_over bytes buffer a) (read_of bytes r (length buffer) a).answer
-      by (At s) e = at-handed s (min (length buffer) (length (rest_of bytes s))) e refl
-      by Corrupted e = refl
+      by : (a : Result PageReader Corrupted) → ready bytes r ≡ a → HandedBy bytes o buffer (laid_over bytes buffer a) (read_of bytes r (length buffer) a).answer
+      by (Ok s) e = at-handed s (min (length buffer) (length (rest_of bytes s))) e refl
+      by (Err w) e = refl
 
 pub read-hands : (flash : List ℕ) (page : PageID) (o : ℕ) (r : PageReader) → Stands page (page_of page.0 flash) o r → (buffer : List ℕ)
     → HandedBy (page_of page.0 flash) o buffer (read_bytes r flash buffer) (read r flash (length buffer)).answer

@@ -1,11 +1,9 @@
 -- The range of a reader, and the checks before a call's work, in their order, 5, 11, 4 (docs/RULES.md, Ranges, Order of
 -- checks). Assumes nothing.
-use Rattle.std.specs.Prelude.{Bool, ◌&&◌, ◌||◌, ℕ, ◌+◌, ◌%◌, eqb, leb, ltb}
+use Rattle.std.specs.Prelude.{Bool, ◌&&◌, ◌||◌, ℕ, ◌+◌, ◌%◌, eqb, leb, ltb, Ok}
 use Rattle.types.specs.Build.{page_size, align, max_page_count, page_header_size, chunk_header_size}
-use Rattle.types.specs.Checks.{asking}
+use Rattle.types.specs.Checks.{asking, Verdict}
 use Rattle.types.specs.declared.refusal.Refusal.TheVariants.{BadFlash, BadState}
-use Rattle.types.specs.declared.refusal.Verdict.{Verdict}
-use Rattle.types.specs.declared.refusal.Verdict.TheVariants.{Fine}
 use Rattle.flash.specs.Geometry.{flash_fine}
 use Rattle.page.specs.Checks.{page_check}
 use Rattle.reader.specs.declared.page_reader.PageReader.{PageReader}
@@ -21,7 +19,7 @@ in_range r = ltb r.page.0 max_page_count && (r.ended || chunk_in_range r.offset 
 
 -- 11, of dehydrate and page_id
 abbrev pub state_check : PageReader → Verdict
-state_check r = asking (in_range r) BadState Fine
+state_check r = asking (in_range r) BadState (Ok tt)
 
 -- 5, 11, 4, of every call on a reader that takes the flash, of n bytes
 unfoldable pub reader_check : ℕ → PageReader → Verdict

@@ -1,23 +1,19 @@
 -- What a new reader finds on a page, by the calls' own definitions: open, then reads until one answers 0 or refuses. And what
 -- the page's walk says of it. Assumes nothing.
-use Rattle.std.specs.Prelude.{Bool, cond, ℕ, zero, suc, ◌≤◌, length, take, drop}
+use Rattle.types.specs.Checks.{Verdict}
+use Rattle.std.specs.declared.result.Result.{Result}
+use Rattle.types.specs.declared.refusal.Corrupted.{Corrupted}
+use Rattle.types.specs.declared.refusal.Refusal.{Refusal}
+use Rattle.std.specs.Prelude.{Bool, cond, ℕ, zero, suc, ◌≤◌, length, take, drop, Ok, Err, ⊤}
 use mathlib.Core.List.{List, [], ◌∷◌, flatten}
 use Rattle.types.specs.Build.{page_size, max_chunk_size}
 use Rattle.types.specs.declared.page_id.PageID.{PageID}
 use Rattle.types.specs.declared.refusal.Refusal.TheVariants as row
-use Rattle.types.specs.declared.refusal.Verdict.{Verdict}
-use Rattle.types.specs.declared.refusal.Verdict.TheVariants.{Fine, Refused}
 use Rattle.slices.specs.Patch.{blank}
 use Rattle.page.specs.Chunks.{payload_at, payload_fine}
 use Rattle.page.specs.Walks.{Chunk, walk_from}
-use Rattle.page.specs.declared.walk.Ending.{Ending}
-use Rattle.page.specs.declared.walk.Ending.TheVariants as ending
 use Rattle.reader.specs.Calls.{open_page, read, read_bytes}
 use Rattle.reader.specs.States.{new_reader}
-use Rattle.reader.specs.declared.answers.Count.{Count}
-use Rattle.reader.specs.declared.answers.Count.TheVariants as count
-use Rattle.types.specs.declared.answers.Outcome.{Outcome}
-use Rattle.types.specs.declared.answers.Outcome.TheVariants as outcome
 use Rattle.reader.specs.declared.page_reader.PageReader.{PageReader}
 
 -- what was handed out, call by call, and how it ended: with nothing more, or refused
@@ -34,20 +30,20 @@ and_then part rest = record { parts = part ∷ rest.parts; ends = rest.ends }
 -- ---- by the calls
 
 -- after a read: at 0 and at a refusal it ends, else the first bytes of the buffer were handed out
-abbrev pub read_on : (PageReader → Found) → List ℕ → Count → PageReader → Found
-read_on further buffer (count.Bytes zero) r = nothing_more Fine
-read_on further buffer (count.Bytes (suc n)) r = and_then (take (suc n) buffer) (further r)
-read_on further buffer (count.Refused why) r = nothing_more (Refused why)
+abbrev pub read_on : (PageReader → Found) → List ℕ → Result ℕ Refusal → PageReader → Found
+read_on further buffer (Ok zero) r = nothing_more (Ok tt)
+read_on further buffer (Ok (suc n)) r = and_then (take (suc n) buffer) (further r)
+read_on further buffer (Err why) r = nothing_more (Err why)
 
 -- at most n reads, each into the next of the buffers
 unfoldable pub reads : ℕ → (ℕ → List ℕ) → List ℕ → PageReader → Found
-reads zero buffers flash r = nothing_more Fine
+reads zero buffers flash r = nothing_more (Ok tt)
 reads (suc n) buffers flash r =
     read_on (reads n (λ i. buffers (suc i)) flash) (read_bytes r flash (buffers 0)) (read r flash (length (buffers 0))).answer (read r flash (length (buffers 0))).reader
 
-abbrev pub read_all : (PageReader → Found) → Outcome → PageReader → Found
-read_all further outcome.Done r = further r
-read_all further (outcome.Refused why) r = nothing_more (Refused why)
+abbrev pub read_all : (PageReader → Found) → Result ⊤ Refusal → PageReader → Found
+read_all further (Ok tt) r = further r
+read_all further (Err why) r = nothing_more (Err why)
 
 -- with these buffers: each read but the last hands out a byte or more, so a page has no more of them
 unfoldable pub found_with : (ℕ → List ℕ) → List ℕ → ℕ → PageID → ℕ → Found
@@ -71,14 +67,14 @@ abbrev pub sum_right : List ℕ → Chunk → Bool
 sum_right page c = payload_fine page c.offset c.len c.crc
 
 -- the end of a walk, or a chunk that cannot be
-abbrev pub end_verdict : Ending → Verdict
-end_verdict (ending.EndAt o) = Fine
-end_verdict ending.Corrupted = Refused row.Corrupted
+abbrev pub end_verdict : Result ℕ Corrupted → Verdict
+end_verdict (Ok o) = Ok tt
+end_verdict (Err w) = Err row.Corrupted
 
 -- the payloads up to the first chunk whose sum is wrong, which is refused; after the last one the walk's end decides
-unfoldable pub good_part : List ℕ → List Chunk → Ending → Found
+unfoldable pub good_part : List ℕ → List Chunk → Result ℕ Corrupted → Found
 good_part page [] e = nothing_more (end_verdict e)
-good_part page (c ∷ cs) e = cond (sum_right page c) (and_then (payload_of page c) (good_part page cs e)) (nothing_more (Refused row.Corrupted))
+good_part page (c ∷ cs) e = cond (sum_right page c) (and_then (payload_of page c) (good_part page cs e)) (nothing_more (Err row.Corrupted))
 
 -- the walk's chunks from o on, so far as they are good
 abbrev pub walk_finds : List ℕ → ℕ → Found

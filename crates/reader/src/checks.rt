@@ -6,47 +6,40 @@ use crate::page_reader::PageReader;
 use flash::geometry::check_flash;
 use page::checks::check_page;
 use types::config::{ALIGN, CHUNK_HEADER_SIZE, MAX_PAGE_COUNT, PAGE_HEADER_SIZE, PAGE_SIZE};
-use types::num::minus;
-use types::refusal::{Refusal, Verdict};
+use types::refusal::Refusal;
 
 fn chunk_in_range(offset: usize, len: usize, position: usize) -> bool
     ensures answers { result ≡ chunk_in_range offset len position }
 {
     let last = PAGE_SIZE - CHUNK_HEADER_SIZE;
-    let room = minus(last, offset);
-    (offset % ALIGN == 0)
-        & (PAGE_HEADER_SIZE <= offset)
-        & (offset <= last)
-        & (len <= room)
-        & (position <= len)
+    offset % ALIGN == 0
+        && PAGE_HEADER_SIZE <= offset
+        && offset <= last
+        && len <= last - offset
+        && position <= len
 }
 
 fn in_range(r: PageReader) -> bool
     ensures answers { result ≡ in_range r }
 {
-    let page = r.page;
-    (page.index() < MAX_PAGE_COUNT) & (r.ended | chunk_in_range(r.offset, r.len, r.position))
+    r.page.index() < MAX_PAGE_COUNT && (r.ended || chunk_in_range(r.offset, r.len, r.position))
 }
 
-pub(crate) fn check_state(r: PageReader) -> Verdict
+pub(crate) fn check_state(r: PageReader) -> Result<(), Refusal>
     ensures answers { result ≡ state_check r }
 {
     if in_range(r) {
-        Verdict::Fine
+        Ok(())
     } else {
-        Verdict::Refused(Refusal::BadState)
+        Err(Refusal::BadState)
     }
 }
 
-pub(crate) fn check_reader(bytes: usize, r: PageReader) -> Verdict
+#[tactic(auto, unfolding(crate::specs::Checks::reader_check))]
+pub(crate) fn check_reader(bytes: usize, r: PageReader) -> Result<(), Refusal>
     ensures answers { result ≡ reader_check bytes r }
 {
-    if let Verdict::Refused(why) = check_flash(bytes) {
-        return Verdict::Refused(why);
-    }
-    if let Verdict::Refused(why) = check_state(r) {
-        return Verdict::Refused(why);
-    }
-    let page = r.page;
-    check_page(bytes, page)
+    check_flash(bytes)?;
+    check_state(r)?;
+    check_page(bytes, r.page)
 }

@@ -1,8 +1,5 @@
 // A reader's state to be kept (page.rs, DehydratedPageReader). It has a type of its own, so that nobody reads by it before
-// rehydrate_from has checked it again.
-ghost use Rattle.std.specs.Prelude.{◌≡◌};
-ghost use Rattle.reader.specs.States.{stored, restored};
-
+// rehydrate_from has checked it again. From one to the other and back nothing is checked.
 use crate::page_reader::PageReader;
 use types::page_id::PageID;
 
@@ -16,30 +13,38 @@ pub struct DehydratedPageReader {
     pub position: usize,
 }
 
-pub(crate) fn stored(r: PageReader) -> DehydratedPageReader
-    ensures answers { result ≡ stored r }
-{
-    let page = r.page;
-    DehydratedPageReader {
-        page,
-        ended: r.ended,
-        offset: r.offset,
-        len: r.len,
-        crc: r.crc,
-        position: r.position,
+impl From<PageReader> for DehydratedPageReader {
+    ghost use Rattle.std.specs.Prelude.{◌≡◌};
+    ghost use Rattle.reader.specs.States.{stored};
+
+    ghost from_gives = { λ r kept. kept ≡ stored r };
+
+    fn from(r: PageReader) -> DehydratedPageReader {
+        DehydratedPageReader {
+            page: r.page,
+            ended: r.ended,
+            offset: r.offset,
+            len: r.len,
+            crc: r.crc,
+            position: r.position,
+        }
     }
 }
 
-pub(crate) fn restored(d: DehydratedPageReader) -> PageReader
-    ensures answers { result ≡ restored d }
-{
-    let page = d.page;
-    PageReader {
-        page,
-        ended: d.ended,
-        offset: d.offset,
-        len: d.len,
-        crc: d.crc,
-        position: d.position,
+impl From<DehydratedPageReader> for PageReader {
+    ghost use Rattle.std.specs.Prelude.{◌≡◌};
+    ghost use Rattle.reader.specs.States.{restored};
+
+    ghost from_gives = { λ kept r. r ≡ restored kept };
+
+    fn from(kept: DehydratedPageReader) -> PageReader {
+        PageReader {
+            page: kept.page,
+            ended: kept.ended,
+            offset: kept.offset,
+            len: kept.len,
+            crc: kept.crc,
+            position: kept.position,
+        }
     }
 }

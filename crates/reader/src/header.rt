@@ -6,23 +6,35 @@ use flash::geometry::page_of;
 use page::checks::check_open;
 use page::header::{header_of, page_header_fine};
 use slices::part;
-use types::answers::Outcome;
 use types::page_id::PageID;
-use types::refusal::{Refusal, Verdict};
+use types::refusal::Refusal;
+
+// Fine where this page has its header, with this magic, its own number and the sum of its h bytes.
+#[tactic(auto, unfolding(crate::specs::Calls::read_header))]
+pub(crate) fn check_page_header(
+    flash: &[u8],
+    magic: u32,
+    page: PageID,
+    h: usize,
+) -> Result<(), Refusal>
+    ensures answers { result ≡ read_header flash.now magic page h }
+{
+    check_open(flash.len(), h, page)?;
+    if page_header_fine(page_of(flash, page), magic, page, h) {
+        Ok(())
+    } else {
+        Err(Refusal::Corrupted)
+    }
+}
 
 // If the call succeeds, the h bytes of the higher header are put into the buffer, whose length is h.
-pub fn read_header(flash: &[u8], magic: u32, page: PageID, header: &mut [u8]) -> Outcome
+#[tactic(auto, unfolding(crate::specs::Calls::read_header_bytes))]
+pub fn read_header(flash: &[u8], magic: u32, page: PageID, header: &mut [u8]) -> Result<(), Refusal>
     ensures answers { result ≡ read_header flash.now magic page (length header.old) }
     ensures bytes { header.new ≡ read_header_bytes flash.now magic page header.old }
 {
     let h = header.len();
-    if let Verdict::Refused(why) = check_open(flash.len(), h, page) {
-        return Outcome::Refused(why);
-    }
-    let bytes = page_of(flash, page);
-    if !page_header_fine(bytes, magic, page, h) {
-        return Outcome::Refused(Refusal::Corrupted);
-    }
-    part::put(header, header_of(bytes, h));
-    Outcome::Done
+    check_page_header(flash, magic, page, h)?;
+    part::put(header, header_of(page_of(flash, page), h));
+    Ok(())
 }

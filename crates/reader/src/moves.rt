@@ -5,51 +5,41 @@ ghost use Rattle.page.specs.Chunks.{checked_at};
 ghost use Rattle.reader.specs.Moves.{Whole, arriving, moved, ready, rest_of, past, skipped};
 
 use crate::page_reader::PageReader;
-use page::chunk::{Step, align_up, checked_at, payload_at};
+use page::chunk::{align_up, checked_at, payload_at};
 use slices::part::part_of;
 use types::config::CHUNK_HEADER_SIZE;
-
-#[derive(Clone, Copy)]
-pub(crate) enum Arrived {
-    At(PageReader),
-    Corrupted,
-}
+use types::refusal::Corrupted;
 
 // The reader after a skip, and how many of the bytes were missing.
 #[derive(Clone, Copy)]
-pub(crate) enum Passed {
-    To { reader: PageReader, left: usize },
-    Corrupted,
+pub(crate) struct Passed {
+    pub reader: PageReader,
+    pub left: usize,
 }
 
 // Moves the reader to `at`: the start of a chunk, or the end of the page's chunks.
-pub(crate) fn arriving(r: PageReader, page: &[u8], at: usize) -> Arrived
+pub(crate) fn arriving(r: PageReader, page: &[u8], at: usize) -> Result<PageReader, Corrupted>
     ensures answers { result ≡ arriving r at (checked_at page.now at) }
 {
-    let id = r.page;
-    match checked_at(page, at) {
-        Step::End => Arrived::At(PageReader {
-            page: id,
+    Ok(match checked_at(page, at)? {
+        None => PageReader {
             ended: true,
             offset: at,
-            len: r.len,
-            crc: r.crc,
-            position: r.position,
-        }),
-        Step::Corrupted => Arrived::Corrupted,
-        Step::Chunk { len, crc, next: _ } => Arrived::At(PageReader {
-            page: id,
+            ..r
+        },
+        Some(chunk) => PageReader {
+            page: r.page,
             ended: false,
             offset: at,
-            len,
-            crc,
+            len: chunk.len,
+            crc: chunk.crc,
             position: 0,
-        }),
-    }
+        },
+    })
 }
 
 // Moves the reader to the chunk after its own.
-fn moved(r: PageReader, page: &[u8]) -> Arrived
+fn moved(r: PageReader, page: &[u8]) -> Result<PageReader, Corrupted>
     requires { r.offset + chunk_header_size + r.len < 2 ^ 32 }
     ensures answers { result ≡ moved page.now r }
 {
@@ -61,17 +51,15 @@ fn moved(r: PageReader, page: &[u8]) -> Arrived
 }
 
 // Makes the reader ready to read: if its chunk is used up, it moves to the next one, once.
-pub(crate) fn ready(r: PageReader, page: &[u8]) -> Arrived
+#[tactic(auto, unfolding(crate::specs::Moves::ready))]
+pub(crate) fn ready(r: PageReader, page: &[u8]) -> Result<PageReader, Corrupted>
     requires { Whole r }
     ensures answers { result ≡ ready page.now r }
 {
-    if r.ended {
-        return Arrived::At(r);
-    }
-    if r.position == r.len {
+    if !r.ended && r.position == r.len {
         moved(r, page)
     } else {
-        Arrived::At(r)
+        Ok(r)
     }
 }
 
@@ -92,19 +80,14 @@ pub(crate) fn past(r: PageReader, n: usize) -> PageReader
     requires { r.position + n < 2 ^ 64 }
     ensures answers { result ≡ past r n }
 {
-    let page = r.page;
     PageReader {
-        page,
-        ended: r.ended,
-        offset: r.offset,
-        len: r.len,
-        crc: r.crc,
         position: r.position + n,
+        ..r
     }
 }
 
 // Passes `count` bytes, or goes to the end.
-pub(crate) fn skipped(reader: PageReader, page: &[u8], count: usize) -> Passed
+pub(crate) fn skipped(reader: PageReader, page: &[u8], count: usize) -> Result<Passed, Corrupted>
     requires { Whole reader }
     ensures answers { result ≡ skipped page.now count reader }
 {
@@ -112,24 +95,19 @@ pub(crate) fn skipped(reader: PageReader, page: &[u8], count: usize) -> Passed
     let mut want = count;
     loop {
         if r.ended {
-            return Passed::To {
+            return Ok(Passed {
                 reader: r,
                 left: want,
-            };
+            });
         }
         let left = rest_of(page, r).len();
         if want <= left {
-            return Passed::To {
+            return Ok(Passed {
                 reader: past(r, want),
                 left: 0,
-            };
+            });
         }
-        match moved(past(r, left), page) {
-            Arrived::Corrupted => return Passed::Corrupted,
-            Arrived::At(s) => {
-                want -= left;
-                r = s;
-            }
-        }
+        r = moved(past(r, left), page)?;
+        want -= left;
     }
 }

@@ -2,23 +2,21 @@
 // is being read.
 ghost use Rattle.std.specs.Prelude.{◌≡◌, length};
 ghost use Rattle.reader.specs.States.{new_reader, unread};
-ghost use Rattle.reader.specs.Calls.{open_page, open_bytes, read, read_bytes, skip, is_at_eof, dehydrate, rehydrate_from, page_id};
+ghost use Rattle.reader.specs.Calls.{passage_from, open_page, open_bytes, read, read_bytes, skip, is_at_eof, dehydrate, rehydrate_from, page_id};
 
-use crate::answers::{Count, Dehydration, EndTest, EndTested, Opening, Passage};
+use crate::answers::{EndTest, Passage};
 use crate::checks::{check_reader, check_state};
-use crate::dehydrated::{DehydratedPageReader, restored, stored};
-use crate::moves::{Arrived, Passed, arriving, past, ready, rest_of, skipped};
+use crate::dehydrated::DehydratedPageReader;
+use crate::header::check_page_header;
+use crate::moves::{arriving, past, ready, rest_of, skipped};
 use crc::crc32;
 use flash::geometry::page_of;
-use page::checks::check_open;
 use page::chunk::payload_at;
-use page::header::{header_of, page_header_fine};
+use page::header::header_of;
 use slices::part;
-use types::answers::{Outcome, PageOf};
 use types::config::PAGE_HEADER_SIZE;
-use types::num::min;
 use types::page_id::PageID;
-use types::refusal::{Refusal, Verdict};
+use types::refusal::Refusal;
 
 #[derive(Clone, Copy)]
 pub struct PageReader {
@@ -54,165 +52,128 @@ impl PageReader {
     }
 
     // Opens a page at its first chunk. If that succeeds, the h bytes of the higher header are put into the buffer, whose length is h.
-    pub fn open(self, flash: &[u8], magic: u32, page: PageID, header: &mut [u8]) -> Opening
+    pub fn open(self, flash: &[u8], magic: u32, page: PageID, header: &mut [u8]) -> Passage<()>
         ensures answers { result ≡ open_page self flash.now magic page (length header.old) }
         ensures bytes { header.new ≡ open_bytes self flash.now magic page header.old }
     {
+        Passage::of(self, self.opened(flash, magic, page, header))
+    }
+
+    #[tactic(auto, unfolding(crate::specs::Calls::open_page, crate::specs::Calls::open_bytes, crate::specs::Calls::read_header))]
+    fn opened(
+        self,
+        flash: &[u8],
+        magic: u32,
+        page: PageID,
+        header: &mut [u8],
+    ) -> Result<((), PageReader), Refusal>
+        ensures answers { passage_from self result ≡ open_page self flash.now magic page (length header.old) }
+        ensures bytes { header.new ≡ open_bytes self flash.now magic page header.old }
+    {
         let h = header.len();
-        if let Verdict::Refused(why) = check_open(flash.len(), h, page) {
-            return Opening {
-                answer: Outcome::Refused(why),
-                reader: self,
-            };
-        }
+        check_page_header(flash, magic, page, h)?;
         let bytes = page_of(flash, page);
-        if !page_header_fine(bytes, magic, page, h) {
-            return Opening {
-                answer: Outcome::Refused(Refusal::Corrupted),
-                reader: self,
-            };
-        }
-        let Arrived::At(r) = arriving(unread(page), bytes, PAGE_HEADER_SIZE + h) else {
-            return Opening {
-                answer: Outcome::Refused(Refusal::Corrupted),
-                reader: self,
-            };
-        };
+        let reader = arriving(unread(page), bytes, PAGE_HEADER_SIZE + h)?;
         part::put(header, header_of(bytes, h));
-        Opening {
-            answer: Outcome::Done,
-            reader: r,
-        }
+        Ok(((), reader))
     }
 
     // Reads as many bytes of one chunk as the buffer has room for. It answers 0 at the end, and on arriving at an empty chunk.
-    pub fn read(self, flash: &[u8], buffer: &mut [u8]) -> Passage
+    pub fn read(self, flash: &[u8], buffer: &mut [u8]) -> Passage<usize>
         ensures answers { result ≡ read self flash.now (length buffer.old) }
         ensures bytes { buffer.new ≡ read_bytes self flash.now buffer.old }
     {
-        if let Verdict::Refused(why) = check_reader(flash.len(), self) {
-            return Passage {
-                answer: Count::Refused(why),
-                reader: self,
-            };
-        }
-        let id = self.page;
-        let page = page_of(flash, id);
-        let Arrived::At(r) = ready(self, page) else {
-            return Passage {
-                answer: Count::Refused(Refusal::Corrupted),
-                reader: self,
-            };
-        };
-        let rest = rest_of(page, r);
-        let n = min(buffer.len(), rest.len());
+        Passage::of(self, self.read_into(flash, buffer))
+    }
+
+    #[tactic(auto, unfolding(crate::specs::Calls::read, crate::specs::Calls::read_bytes))]
+    fn read_into(self, flash: &[u8], buffer: &mut [u8]) -> Result<(usize, PageReader), Refusal>
+        ensures answers { passage_from self result ≡ read self flash.now (length buffer.old) }
+        ensures bytes { buffer.new ≡ read_bytes self flash.now buffer.old }
+    {
+        check_reader(flash.len(), self)?;
+        let page = page_of(flash, self.page);
+        let reader = ready(self, page)?;
+        let rest = rest_of(page, reader);
+        let n = buffer.len().min(rest.len());
         part::put(buffer, rest);
-        Passage {
-            answer: Count::Bytes(n),
-            reader: past(r, n),
-        }
+        Ok((n, past(reader, n)))
     }
 
     // Skips `count` bytes, over as many chunks as that takes, or up to the end.
-    pub fn skip(self, flash: &[u8], count: usize) -> Passage
+    pub fn skip(self, flash: &[u8], count: usize) -> Passage<usize>
         ensures answers { result ≡ skip self flash.now count }
     {
-        if let Verdict::Refused(why) = check_reader(flash.len(), self) {
-            return Passage {
-                answer: Count::Refused(why),
-                reader: self,
-            };
-        }
-        let id = self.page;
-        match skipped(self, page_of(flash, id), count) {
-            Passed::Corrupted => Passage {
-                answer: Count::Refused(Refusal::Corrupted),
-                reader: self,
-            },
-            Passed::To { reader, left } => Passage {
-                answer: Count::Bytes(count - left),
-                reader,
-            },
-        }
+        Passage::of(self, self.gone_over(flash, count))
+    }
+
+    #[tactic(auto, unfolding(crate::specs::Calls::skip))]
+    fn gone_over(self, flash: &[u8], count: usize) -> Result<(usize, PageReader), Refusal>
+        ensures answers { passage_from self result ≡ skip self flash.now count }
+    {
+        check_reader(flash.len(), self)?;
+        let passed = skipped(self, page_of(flash, self.page), count)?;
+        Ok((count - passed.left, passed.reader))
     }
 
     // Answers whether nothing is left to read. The reader that comes back has left a chunk that was used up.
-    pub fn is_at_eof(self, flash: &[u8]) -> EndTested
+    pub fn is_at_eof(self, flash: &[u8]) -> Passage<EndTest>
         ensures answers { result ≡ is_at_eof self flash.now }
     {
-        if let Verdict::Refused(why) = check_reader(flash.len(), self) {
-            return EndTested {
-                answer: EndTest::Refused(why),
-                reader: self,
-            };
-        }
-        let id = self.page;
-        let Arrived::At(r) = ready(self, page_of(flash, id)) else {
-            return EndTested {
-                answer: EndTest::Refused(Refusal::Corrupted),
-                reader: self,
-            };
-        };
-        if r.ended {
-            EndTested {
-                answer: EndTest::AtEnd,
-                reader: r,
-            }
-        } else {
-            EndTested {
-                answer: EndTest::More,
-                reader: r,
-            }
-        }
+        Passage::of(self, self.tested(flash))
     }
 
-    pub fn dehydrate(self) -> Dehydration
+    #[tactic(auto, unfolding(crate::specs::Calls::is_at_eof))]
+    fn tested(self, flash: &[u8]) -> Result<(EndTest, PageReader), Refusal>
+        ensures answers { passage_from self result ≡ is_at_eof self flash.now }
+    {
+        check_reader(flash.len(), self)?;
+        let reader = ready(self, page_of(flash, self.page))?;
+        let test = if reader.ended {
+            EndTest::AtEnd
+        } else {
+            EndTest::More
+        };
+        Ok((test, reader))
+    }
+
+    #[tactic(auto, unfolding(crate::specs::Calls::dehydrate))]
+    pub fn dehydrate(self) -> Result<DehydratedPageReader, Refusal>
         ensures answers { result ≡ dehydrate self }
     {
-        if let Verdict::Refused(why) = check_state(self) {
-            return Dehydration::Refused(why);
-        }
-        Dehydration::State(stored(self))
+        check_state(self)?;
+        Ok(DehydratedPageReader::from(self))
     }
 
     // Makes a reader of a kept state, after the sum of its chunk's payload was checked again.
-    pub fn rehydrate_from(self, flash: &[u8], dehydrated: DehydratedPageReader) -> Opening
+    pub fn rehydrate_from(self, flash: &[u8], dehydrated: DehydratedPageReader) -> Passage<()>
         ensures answers { result ≡ rehydrate_from self flash.now dehydrated }
     {
-        let r = restored(dehydrated);
-        if let Verdict::Refused(why) = check_reader(flash.len(), r) {
-            return Opening {
-                answer: Outcome::Refused(why),
-                reader: self,
-            };
-        }
-        let id = r.page;
-        if r.ended {
-            return Opening {
-                answer: Outcome::Done,
-                reader: r,
-            };
-        }
-        if crc32(payload_at(page_of(flash, id), r.offset, r.len)) == r.crc {
-            Opening {
-                answer: Outcome::Done,
-                reader: r,
-            }
+        Passage::of(self, self.rehydrated(flash, dehydrated))
+    }
+
+    #[tactic(auto, unfolding(crate::specs::Calls::rehydrate_from))]
+    fn rehydrated(
+        self,
+        flash: &[u8],
+        dehydrated: DehydratedPageReader,
+    ) -> Result<((), PageReader), Refusal>
+        ensures answers { passage_from self result ≡ rehydrate_from self flash.now dehydrated }
+    {
+        let r = PageReader::from(dehydrated);
+        check_reader(flash.len(), r)?;
+        if r.ended || crc32(payload_at(page_of(flash, r.page), r.offset, r.len)) == r.crc {
+            Ok(((), r))
         } else {
-            Opening {
-                answer: Outcome::Refused(Refusal::Corrupted),
-                reader: self,
-            }
+            Err(Refusal::Corrupted)
         }
     }
 
-    pub fn page_id(self) -> PageOf
+    #[tactic(auto, unfolding(crate::specs::Calls::page_id))]
+    pub fn page_id(self) -> Result<PageID, Refusal>
         ensures answers { result ≡ page_id self }
     {
-        if let Verdict::Refused(why) = check_state(self) {
-            return PageOf::Refused(why);
-        }
-        let page = self.page;
-        PageOf::Page(page)
+        check_state(self)?;
+        Ok(self.page)
     }
 }

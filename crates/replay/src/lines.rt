@@ -1,14 +1,13 @@
 // The lines of a script, each answered in turn.
 use crate::line::{LONGEST, answer};
-use crate::world::new_world;
+use crate::world::{Space, new_world};
 use desk::files::read_full;
 use desk::say;
 use replay_say::Output;
-use script::space::{flash_space, runs_space, script_space};
-use script::words::end_from;
+use script::space::{FLASH_ROOM, RUNS_ROOM, SCRIPT_ROOM, space};
 use slices::part::part_of;
 use std::io::Read;
-use types::num::{min, minus};
+use types::config::ERASE_VALUE;
 
 // Run ends that a script can give.
 const MOST_ENDS: usize = 32;
@@ -30,47 +29,38 @@ fn say_stopped(rt: &HostRuntime, number: usize, line: &[u8]) {
     say::text(rt, b"\n");
 }
 
-// Whether the script goes on behind a line; where not, says why.
-fn goes_on(rt: &HostRuntime, out: &Output, fine: bool, number: usize, line: &[u8]) -> bool {
-    if let Some(why) = out.failure() {
-        say::output_failed(rt, b"replay", &why);
-        return false;
-    }
-    if !fine {
-        say_stopped(rt, number, line);
-    }
-    fine
-}
-
-fn answer_lines(
-    rt: &HostRuntime,
-    script: &[u8],
-    flash: &mut [u8],
-    runs: &mut [u8],
-    ends: &mut [usize],
-) {
+// Answers each line, up to one that is no call, or whose answer can't be written.
+fn answer_lines(rt: &HostRuntime, script: &[u8]) {
     let mut out = Output::new(rt.stdout());
+    let mut flash = space::<FLASH_ROOM>(ERASE_VALUE);
+    let mut runs = space::<RUNS_ROOM>(0);
+    let mut ends = [0; MOST_ENDS];
+    let mut space = Space {
+        flash: &mut flash,
+        runs: &mut runs,
+        ends: &mut ends,
+    };
     let mut w = new_world();
-    let mut number = 0;
-    let mut at = 0;
-    while at < script.len() {
-        let end = end_from(script, at, b'\n');
-        let line = part_of(script, at, minus(end, at));
-        number += 1;
-        w = answer(&mut out, w, line, flash, runs, ends);
-        if !goes_on(rt, &out, w.fine, number, line) {
+    for (i, line) in script.split(|byte| *byte == b'\n').enumerate() {
+        let next = answer(&mut out, w, line, &mut space);
+        if let Some(why) = out.failure() {
+            say::output_failed(rt, b"replay", &why);
             return;
         }
-        at = min(end, script.len()) + 1;
+        let Some(left) = next else {
+            say_stopped(rt, i + 1, line);
+            return;
+        };
+        w = left;
     }
 }
 
 pub(crate) fn answer_input(rt: &HostRuntime) {
-    let mut space = script_space();
+    let mut script = space::<SCRIPT_ROOM>(0);
     let mut more = [0; 1];
     let mut input = rt.stdin();
-    let n = read_full(&mut input, &mut space);
-    if n == space.len() {
+    let n = read_full(&mut input, &mut script);
+    if n == script.len() {
         say::text(rt, b"replay: the script is longer than 1048575 bytes\n");
         return;
     }
@@ -79,8 +69,5 @@ pub(crate) fn answer_input(rt: &HostRuntime) {
         say::text(rt, b"replay: standard input cannot be read\n");
         return;
     }
-    let mut flash = flash_space();
-    let mut runs = runs_space();
-    let mut ends = [0; MOST_ENDS];
-    answer_lines(rt, part_of(&space, 0, n), &mut flash, &mut runs, &mut ends);
+    answer_lines(rt, &script[..n]);
 }

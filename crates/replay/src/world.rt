@@ -6,15 +6,20 @@ use reader::dehydrated::DehydratedPageReader;
 use reader::page_reader::PageReader;
 use replay_reader::state::SLOTS;
 use types::config::{FILE_COUNT, PAGE_SIZE};
-use types::page_id::PageID;
 use writer::page_writer::PageWriter;
 
 const STORES_AT_FIRST: usize = 1000;
 
+// The buffers.
+#[derive(Drop)]
+pub(crate) struct Space<'a> {
+    pub flash: &'a mut [u8],
+    pub runs: &'a mut [u8],
+    pub ends: &'a mut [usize],
+}
+
 #[derive(Clone, Copy)]
 pub(crate) struct World {
-    // Whether every line so far was a call.
-    pub fine: bool,
     pub allocator: Allocator,
     // How many bytes the flash has.
     pub flash_len: usize,
@@ -23,28 +28,18 @@ pub(crate) struct World {
     pub cursors: replay_cursor::state::State,
 }
 
-// What a new reader has.
-fn unused_slot() -> DehydratedPageReader {
-    DehydratedPageReader {
-        page: PageID(0),
-        ended: false,
-        offset: 0,
-        len: 0,
-        crc: 0,
-        position: 0,
+// A new reader, and one in each slot.
+fn new_readers() -> replay_reader::state::State {
+    let reader = PageReader::new();
+    replay_reader::state::State {
+        reader,
+        kept: [DehydratedPageReader::from(reader); SLOTS],
     }
 }
 
-fn new_readers() -> replay_reader::state::State {
-    let reader = PageReader::new();
-    let kept = [unused_slot(); SLOTS];
-    replay_reader::state::State { reader, kept }
-}
-
 fn new_writers() -> replay_writer::state::State {
-    let writer = PageWriter::new();
     replay_writer::state::State {
-        writer,
+        writer: PageWriter::new(),
         left: STORES_AT_FIRST,
     }
 }
@@ -61,16 +56,11 @@ fn new_cursors() -> replay_cursor::state::State {
 }
 
 pub(crate) fn new_world() -> World {
-    let allocator = Allocator::new();
-    let readers = new_readers();
-    let writers = new_writers();
-    let cursors = new_cursors();
     World {
-        fine: true,
-        allocator,
+        allocator: Allocator::new(),
         flash_len: PAGE_SIZE,
-        readers,
-        writers,
-        cursors,
+        readers: new_readers(),
+        writers: new_writers(),
+        cursors: new_cursors(),
     }
 }

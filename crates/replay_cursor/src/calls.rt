@@ -1,295 +1,135 @@
 // Calls on the cursor.
 use crate::runs;
-use crate::state::{Reply, State, called, no_call, with_cursor};
+use crate::state::State;
 use cursor::answers::NextAnswer;
 use cursor::place::{Cursor, Place, RunPlace};
-use digits::number::Number;
+use replay_say::Output;
 use replay_say::word::Word;
-use replay_say::{Output, end_line, say, say_bytes};
-use run::bound::Bound;
-use script::args::{bytes_at, number_at, number_to};
-use script::space::line_space;
-use script::words::{nth_word, same, word_count};
+use script::args::{bytes_at, number_at};
+use script::space::{LINE_ROOM, space};
+use script::words::{nth_word, word_count};
 use slices::part::part_of;
-use types::answers::Outcome;
+use std::ops::Bound;
 use types::config::FILE_COUNT;
-use types::num::min;
 
 // The longest buffer that a script can ask for.
 const MOST_ROOM: usize = 8192;
 
-#[derive(Clone, Copy)]
-enum Kind {
-    Is(Bound),
-    NoKind,
-}
-
-// A bound's kind and the length of its key.
-#[derive(Clone, Copy)]
-enum BoundRead {
-    Is(Bound, usize),
-    NoBound,
-}
-
-#[derive(Clone, Copy)]
-enum PlaceRead {
-    Is(Place),
-    NoPlace,
-}
-
-// What a call of next asks for.
-#[derive(Clone, Copy)]
-struct Ask {
-    bound: Bound,
-    upper_len: usize,
-    key_room: usize,
-    value_room: usize,
-}
-
-#[derive(Clone, Copy)]
-enum AskRead {
-    Is(Ask),
-    NoAsk,
-}
-
-#[derive(Clone, Copy)]
-struct PlacesRead {
-    fine: bool,
-    places: [RunPlace; FILE_COUNT],
-}
-
-fn kind_at(line: &[u8], k: usize) -> Kind {
-    let word = nth_word(line, k);
-    if same(word, b"none") {
-        return Kind::Is(Bound::Unbounded);
+// The bound that a call's first two arguments name. Its key goes to the buffer's start.
+fn bound_in<'a>(line: &[u8], space: &'a mut [u8]) -> Option<Bound<&'a [u8]>> {
+    let n = bytes_at(line, 3, space)?;
+    let key = part_of(space, 0, n);
+    match nth_word(line, 2) {
+        b"none" => Some(Bound::Unbounded),
+        b"included" => Some(Bound::Included(key)),
+        b"excluded" => Some(Bound::Excluded(key)),
+        _ => None,
     }
-    if same(word, b"included") {
-        return Kind::Is(Bound::Included);
-    }
-    if same(word, b"excluded") {
-        return Kind::Is(Bound::Excluded);
-    }
-    Kind::NoKind
 }
 
-// The two words of a bound, its key into the buffer's start.
-fn bound_at(line: &[u8], k: usize, next: usize, key: &mut [u8]) -> BoundRead {
-    let Kind::Is(kind) = kind_at(line, k) else {
-        return BoundRead::NoBound;
-    };
-    let Number::Value(n) = bytes_at(line, next, key) else {
-        return BoundRead::NoBound;
-    };
-    BoundRead::Is(kind, n)
-}
-
-fn place_at(line: &[u8], k: usize) -> PlaceRead {
-    if same(nth_word(line, k), b"gone") {
-        return PlaceRead::Is(Place::Gone);
+fn place_at(line: &[u8], k: usize) -> Option<Place> {
+    match nth_word(line, k) {
+        b"gone" => Some(Place::Gone),
+        _ => number_at(line, k).map(Place::At),
     }
-    let Number::Value(at) = number_at(line, k) else {
-        return PlaceRead::NoPlace;
-    };
-    PlaceRead::Is(Place::At(at))
 }
 
 // The places of a line, from its third word on.
-fn places_at(line: &[u8]) -> PlacesRead {
+fn places_in(line: &[u8]) -> Option<[RunPlace; FILE_COUNT]> {
     let gone = RunPlace { place: Place::Gone };
     let mut places = [gone; FILE_COUNT];
-    let mut i: usize = 0;
-    while i < FILE_COUNT {
-        let PlaceRead::Is(place) = place_at(line, 2 + i) else {
-            return PlacesRead {
-                fine: false,
-                places,
-            };
-        };
-        places[i] = RunPlace { place };
-        i += 1;
+    for (k, run) in places.iter_mut().enumerate() {
+        run.place = place_at(line, k.saturating_add(2))?;
     }
-    PlacesRead { fine: true, places }
-}
-
-fn say_place(out: &mut Output, place: Place) {
-    match place {
-        Place::Gone => say(out, Word::Gone),
-        Place::At(at) => say(out, Word::Number(at)),
-    }
+    Some(places)
 }
 
 fn show(out: &mut Output, cursor: Cursor) {
-    let places = cursor.places;
-    say(out, Word::Ok);
-    let mut i: usize = 0;
-    while i < FILE_COUNT {
-        let p = places[i];
-        let place = p.place;
-        say_place(out, place);
-        i += 1;
+    out.say(Word::Ok);
+    for run in cursor.places {
+        match run.place {
+            Place::Gone => out.say(Word::Gone),
+            Place::At(at) => out.say(at),
+        }
     }
-    end_line(out);
+    out.end_line();
 }
 
-fn forge(out: &mut Output, w: State, line: &[u8]) -> Reply {
-    let read = places_at(line);
-    if !read.fine {
-        return no_call(w);
-    }
-    say(out, Word::Ok);
-    end_line(out);
-    let places = read.places;
-    with_cursor(w, Cursor { places })
+fn forge(out: &mut Output, w: State, line: &[u8]) -> Option<State> {
+    let places = places_in(line)?;
+    out.say_line(Word::Ok);
+    let cursor = Cursor { places };
+    Some(State { cursor, ..w })
 }
 
-fn new(out: &mut Output, w: State, line: &[u8], runs: &[u8], ends: &[usize]) -> Reply {
-    let mut key = line_space();
-    let BoundRead::Is(bound, n) = bound_at(line, 2, 3, &mut key) else {
-        return no_call(w);
-    };
-    let made = Cursor::new(runs, ends, bound, part_of(&key, 0, n));
-    let answer = made.answer;
-    match answer {
-        Outcome::Done => say(out, Word::Ok),
-        Outcome::Refused(why) => say(out, Word::No(why)),
-    }
-    end_line(out);
+fn new(out: &mut Output, w: State, line: &[u8], runs: &[u8], ends: &[usize]) -> Option<State> {
+    let mut key = space::<LINE_ROOM>(0);
+    let lower = bound_in(line, &mut key)?;
+    let made = Cursor::new(runs, ends, lower);
+    out.say_line(made.answer);
     let cursor = made.cursor;
-    with_cursor(w, cursor)
+    Some(State { cursor, ..w })
 }
 
 fn say_next(out: &mut Output, answer: NextAnswer, key: &[u8], value: &[u8]) {
     match answer {
-        NextAnswer::End => say(out, Word::End),
-        NextAnswer::Entry { key_len, value_len } => {
-            say(out, Word::Ok);
-            say_bytes(out, part_of(key, 0, key_len));
-            say_bytes(out, part_of(value, 0, value_len));
+        Ok(Some(entry)) => {
+            out.say(Word::Ok);
+            out.say(part_of(key, 0, entry.key_len));
+            out.say_line(part_of(value, 0, entry.value_len));
         }
-        NextAnswer::Refused(why) => say(out, Word::No(why)),
+        Ok(None) => out.say_line(Word::End),
+        Err(why) => out.say_line(Word::No(why)),
     }
-    end_line(out);
 }
 
-fn ask_at(line: &[u8], upper: &mut [u8]) -> AskRead {
-    let BoundRead::Is(bound, upper_len) = bound_at(line, 2, 3, upper) else {
-        return AskRead::NoAsk;
-    };
-    let Number::Value(key_room) = number_to(line, 4, MOST_ROOM) else {
-        return AskRead::NoAsk;
-    };
-    let Number::Value(value_room) = number_to(line, 5, MOST_ROOM) else {
-        return AskRead::NoAsk;
-    };
-    AskRead::Is(Ask {
-        bound,
-        upper_len,
-        key_room,
-        value_room,
-    })
+// A step with as much room for the key and the value as is asked for.
+fn next(out: &mut Output, w: State, line: &[u8], runs: &[u8], ends: &[usize]) -> Option<State> {
+    let mut last = space::<LINE_ROOM>(0);
+    let mut key = [0; MOST_ROOM];
+    let mut value = [0; MOST_ROOM];
+    let upper = bound_in(line, &mut last)?;
+    let key = key.get_mut(..number_at(line, 4)?)?;
+    let value = value.get_mut(..number_at(line, 5)?)?;
+    let moved = w.cursor.next(runs, ends, upper, key, value);
+    say_next(out, moved.answer, key, value);
+    let cursor = moved.cursor;
+    Some(State { cursor, ..w })
 }
 
-fn step(
+// Calls on the cursor over the runs, which are lent as they are.
+fn on_cursor(
     out: &mut Output,
-    before: Cursor,
+    w: State,
+    line: &[u8],
     runs: &[u8],
     ends: &[usize],
-    bound: Bound,
-    upper: &[u8],
-    key: &mut [u8],
-    value: &mut [u8],
-) -> Cursor {
-    let moved = before.next(runs, ends, bound, upper, key, value);
-    let answer = moved.answer;
-    say_next(out, answer, key, value);
-    moved.cursor
-}
-
-// A step with as much of the buffers as was asked for.
-fn step_within(
-    out: &mut Output,
-    before: Cursor,
-    runs: &[u8],
-    ends: &[usize],
-    ask: Ask,
-    upper: &[u8],
-    key: &mut [u8],
-    value: &mut [u8],
-) -> Cursor {
-    let bound = ask.bound;
-    let key_end = min(ask.key_room, key.len());
-    let value_end = min(ask.value_room, value.len());
-    step(
-        out,
-        before,
-        runs,
-        ends,
-        bound,
-        upper,
-        &mut key[..key_end],
-        &mut value[..value_end],
-    )
-}
-
-fn next(out: &mut Output, w: State, line: &[u8], runs: &[u8], ends: &[usize]) -> Reply {
-    let mut upper = line_space();
-    let mut key = line_space();
-    let mut value = line_space();
-    let AskRead::Is(ask) = ask_at(line, &mut upper) else {
-        return no_call(w);
-    };
-    let before = w.cursor;
-    let bound_key = part_of(&upper, 0, ask.upper_len);
-    let cursor = step_within(
-        out, before, runs, ends, ask, bound_key, &mut key, &mut value,
-    );
-    with_cursor(w, cursor)
-}
-
-fn first_ends(ends: &[usize], count: usize) -> &[usize] {
-    let n = min(count, ends.len());
-    &ends[..n]
-}
-
-// Calls that look at the runs, which are lent as they are.
-fn over_runs(out: &mut Output, w: State, line: &[u8], runs: &[u8], ends: &[usize]) -> Reply {
-    let name = nth_word(line, 1);
-    let words = word_count(line);
-    if same(name, b"new") & (words == 4) {
-        return new(out, w, line, runs, ends);
+) -> Option<State> {
+    match (nth_word(line, 1), word_count(line)) {
+        (b"new", 4) => new(out, w, line, runs, ends),
+        (b"next", 6) => next(out, w, line, runs, ends),
+        (b"forge", words) if words == 2 + FILE_COUNT => forge(out, w, line),
+        (b"state", 2) => {
+            show(out, w.cursor);
+            Some(w)
+        }
+        _ => None,
     }
-    if same(name, b"next") & (words == 6) {
-        return next(out, w, line, runs, ends);
-    }
-    no_call(w)
 }
 
-fn on_cursor(out: &mut Output, w: State, line: &[u8], runs: &[u8], ends: &[usize]) -> Reply {
-    let name = nth_word(line, 1);
-    let words = word_count(line);
-    if same(name, b"forge") & (words == 2 + FILE_COUNT) {
-        return forge(out, w, line);
-    }
-    if same(name, b"state") & (words == 2) {
-        let cursor = w.cursor;
-        show(out, cursor);
-        return called(w);
-    }
-    let len = w.runs_len;
-    let count = w.ends_len;
-    over_runs(out, w, line, part_of(runs, 0, len), first_ends(ends, count))
-}
-
-// Answers a line that starts with `runs` or `cursor`. The runs and their ends stand at the start of two buffers.
+// Answers a line that starts with `runs` or `cursor`: the states that are left, or none where the line is no call. The runs and their
+// ends stand at the start of two buffers.
 pub fn answer(
     out: &mut Output,
     w: State,
     line: &[u8],
     runs: &mut [u8],
     ends: &mut [usize],
-) -> Reply {
-    if same(nth_word(line, 0), b"runs") {
-        return runs::answer(out, w, line, runs, ends);
+) -> Option<State> {
+    let runs_len = w.runs_len.min(runs.len());
+    let ends_len = w.ends_len.min(ends.len());
+    match nth_word(line, 0) {
+        b"runs" => runs::answer(out, w, line, runs, ends),
+        _ => on_cursor(out, w, line, &runs[..runs_len], &ends[..ends_len]),
     }
-    on_cursor(out, w, line, runs, ends)
 }

@@ -1,71 +1,48 @@
-// Calls on the runs themselves.
-use crate::state::{Reply, State, called, no_call, with_runs};
-use digits::number::Number;
+// Calls on the runs themselves, which stand with their ends at the start of two buffers.
+use crate::state::State;
+use replay_say::Output;
 use replay_say::word::Word;
-use replay_say::{Output, end_line, say};
 use script::args::{bytes_at, number_at};
-use script::space::line_space;
-use script::words::{nth_word, same, word_count};
-use slices::part::{part_of, put};
-use types::num::{min, minus};
+use script::space::{LINE_ROOM, space};
+use script::words::{nth_word, word_count};
+use slices::part::put;
 
-fn ready(out: &mut Output, w: State) -> Reply {
-    say(out, Word::Ok);
-    end_line(out);
-    called(w)
+fn add_bytes(w: State, line: &[u8], runs: &mut [u8]) -> Option<State> {
+    let mut bytes = space::<LINE_ROOM>(0);
+    let n = bytes_at(line, 2, &mut bytes)?;
+    let runs_len = w.runs_len.checked_add(n)?;
+    put(runs.get_mut(w.runs_len..runs_len)?, &bytes);
+    Some(State { runs_len, ..w })
 }
 
-// Puts bytes at an index, as far as the buffer goes.
-fn put_at(buffer: &mut [u8], at: usize, bytes: &[u8]) {
-    if at <= buffer.len() {
-        put(&mut buffer[at..], bytes);
-    }
+fn add_end(w: State, line: &[u8], ends: &mut [usize]) -> Option<State> {
+    let end = number_at(line, 2)?;
+    *ends.get_mut(w.ends_len)? = end;
+    let ends_len = w.ends_len.checked_add(1)?;
+    Some(State { ends_len, ..w })
 }
 
-fn add_bytes(out: &mut Output, w: State, line: &[u8], runs: &mut [u8]) -> Reply {
-    let mut bytes = line_space();
-    let Number::Value(n) = bytes_at(line, 2, &mut bytes) else {
-        return no_call(w);
-    };
-    let from = min(w.runs_len, runs.len());
-    if minus(runs.len(), from) < n {
-        return no_call(w);
-    }
-    put_at(runs, from, part_of(&bytes, 0, n));
-    let ends = w.ends_len;
-    ready(out, with_runs(w, from + n, ends))
+fn poke(w: State, line: &[u8], runs: &mut [u8]) -> Option<State> {
+    let mut bytes = space::<LINE_ROOM>(0);
+    let at = number_at(line, 2)?;
+    let n = bytes_at(line, 3, &mut bytes)?;
+    let there = runs.get_mut(..w.runs_len)?;
+    put(there.get_mut(at..)?.get_mut(..n)?, &bytes);
+    Some(w)
 }
 
-fn add_end(out: &mut Output, w: State, line: &[u8], ends: &mut [usize]) -> Reply {
-    let Number::Value(end) = number_at(line, 2) else {
-        return no_call(w);
-    };
-    let count = w.ends_len;
-    if ends.len() <= count {
-        return no_call(w);
+fn change(w: State, line: &[u8], runs: &mut [u8], ends: &mut [usize]) -> Option<State> {
+    match (nth_word(line, 1), word_count(line)) {
+        (b"new", 2) => Some(State {
+            runs_len: 0,
+            ends_len: 0,
+            ..w
+        }),
+        (b"bytes", 3) => add_bytes(w, line, runs),
+        (b"end", 3) => add_end(w, line, ends),
+        (b"poke", 4) => poke(w, line, runs),
+        _ => None,
     }
-    ends[count] = end;
-    let bytes = w.runs_len;
-    ready(out, with_runs(w, bytes, count + 1))
-}
-
-fn poke(out: &mut Output, w: State, line: &[u8], runs: &mut [u8]) -> Reply {
-    let mut bytes = line_space();
-    let Number::Value(at) = number_at(line, 2) else {
-        return no_call(w);
-    };
-    let Number::Value(n) = bytes_at(line, 3, &mut bytes) else {
-        return no_call(w);
-    };
-    let len = w.runs_len;
-    if len < at {
-        return no_call(w);
-    }
-    if minus(len, at) < n {
-        return no_call(w);
-    }
-    put_at(runs, at, part_of(&bytes, 0, n));
-    ready(out, w)
 }
 
 pub(crate) fn answer(
@@ -74,20 +51,8 @@ pub(crate) fn answer(
     line: &[u8],
     runs: &mut [u8],
     ends: &mut [usize],
-) -> Reply {
-    let name = nth_word(line, 1);
-    let words = word_count(line);
-    if same(name, b"new") & (words == 2) {
-        return ready(out, with_runs(w, 0, 0));
-    }
-    if same(name, b"bytes") & (words == 3) {
-        return add_bytes(out, w, line, runs);
-    }
-    if same(name, b"end") & (words == 3) {
-        return add_end(out, w, line, ends);
-    }
-    if same(name, b"poke") & (words == 4) {
-        return poke(out, w, line, runs);
-    }
-    no_call(w)
+) -> Option<State> {
+    let left = change(w, line, runs, ends)?;
+    out.say_line(Word::Ok);
+    Some(left)
 }

@@ -8,34 +8,3 @@ pub struct State {
     pub runs_len: usize,
     pub ends_len: usize,
 }
-
-// What a line comes to.
-#[derive(Clone, Copy)]
-pub struct Reply {
-    // Whether it is a call.
-    pub fine: bool,
-    // The states that are left.
-    pub left: State,
-}
-
-pub(crate) fn no_call(left: State) -> Reply {
-    Reply { fine: false, left }
-}
-
-pub(crate) fn called(left: State) -> Reply {
-    Reply { fine: true, left }
-}
-
-pub(crate) fn with_cursor(w: State, cursor: Cursor) -> Reply {
-    let mut left = w;
-    left.cursor = cursor;
-    called(left)
-}
-
-// The state with `runs_len` bytes of runs and `ends_len` ends.
-pub(crate) fn with_runs(w: State, runs_len: usize, ends_len: usize) -> State {
-    let mut left = w;
-    left.runs_len = runs_len;
-    left.ends_len = ends_len;
-    left
-}

@@ -1,199 +1,119 @@
 // Calls on the flash itself, which is a buffer's first bytes. A line that goes past its end is no call.
 use crate::sums;
 use crc::crc32;
-use digits::number::Number;
+use replay_say::Output;
+use replay_say::said::Sum;
 use replay_say::word::Word;
-use replay_say::{Output, end_line, say, say_bytes};
 use script::args::{bytes_at, number_at};
-use script::space::line_space;
-use script::words::{nth_word, same, word_count};
-use slices::part::{part_of, put, wipe};
+use script::space::{LINE_ROOM, space};
+use script::words::{nth_word, word_count};
+use slices::part::{part_of, put};
 use types::config::{ERASE_VALUE, PAGE_SIZE};
-use types::num::{min, minus};
-
-// What a line comes to.
-#[derive(Clone, Copy)]
-pub struct Reply {
-    // Whether it is a call.
-    pub fine: bool,
-    // How many bytes the flash has afterwards.
-    pub len: usize,
-}
 
 // No page number or offset may be larger, so that `place` cannot overflow.
 const MOST: usize = 65_536;
 
-pub(crate) fn no_call(len: usize) -> Reply {
-    Reply { fine: false, len }
-}
-
-pub(crate) fn called(len: usize) -> Reply {
-    Reply { fine: true, len }
-}
-
 // An offset in a page, counted from the flash's start.
-fn place(page: usize, offset: usize) -> Number {
-    if MOST < page {
-        return Number::NoNumber;
+fn place(page: usize, offset: usize) -> Option<usize> {
+    if (MOST < page) | (MOST < offset) {
+        return None;
     }
-    if MOST < offset {
-        return Number::NoNumber;
-    }
-    Number::Value(page * PAGE_SIZE + offset)
+    Some(page * PAGE_SIZE + offset)
 }
 
 // The place that the call's first two arguments name.
-fn place_in(line: &[u8]) -> Number {
-    let Number::Value(page) = number_at(line, 2) else {
-        return Number::NoNumber;
-    };
-    let Number::Value(offset) = number_at(line, 3) else {
-        return Number::NoNumber;
-    };
+fn place_in(line: &[u8]) -> Option<usize> {
+    let page = number_at(line, 2)?;
+    let offset = number_at(line, 3)?;
     place(page, offset)
 }
 
-// Whether `count` bytes from a place on are there.
-fn fits(end: usize, at: usize, count: usize) -> bool {
-    (at <= end) & (count <= minus(end, at))
+// The `count` bytes from a place on, if they are there.
+fn part_at(flash: &[u8], at: usize, count: usize) -> Option<&[u8]> {
+    flash.get(at..)?.get(..count)
 }
 
-fn put_at(flash: &mut [u8], at: usize, bytes: &[u8]) {
-    let from = min(at, flash.len());
-    put(&mut flash[from..], bytes);
+fn part_at_mut(flash: &mut [u8], at: usize, count: usize) -> Option<&mut [u8]> {
+    flash.get_mut(at..)?.get_mut(..count)
 }
 
-fn wipe_at(flash: &mut [u8], at: usize, count: usize, value: u8) {
-    let start = min(at, flash.len());
-    let end = start + min(count, minus(flash.len(), start));
-    wipe(&mut flash[start..end], value);
+// A new flash of `length` bytes, all erased: its length.
+fn made(out: &mut Output, flash: &mut [u8], length: usize) -> Option<usize> {
+    flash.get_mut(..length)?.fill(ERASE_VALUE);
+    out.say_line(Word::Ok);
+    Some(length)
 }
 
-// A new flash of `length` bytes, all erased.
-fn made(out: &mut Output, len: usize, flash: &mut [u8], length: usize) -> Reply {
-    if flash.len() < length {
-        return no_call(len);
-    }
-    wipe_at(flash, 0, length, ERASE_VALUE);
-    say(out, Word::Ok);
-    end_line(out);
-    called(length)
+fn pages(out: &mut Output, line: &[u8], flash: &mut [u8]) -> Option<usize> {
+    let count = number_at(line, 2)?;
+    made(out, flash, place(count, 0)?)
 }
 
-fn pages(out: &mut Output, len: usize, line: &[u8], flash: &mut [u8]) -> Reply {
-    let Number::Value(count) = number_at(line, 2) else {
-        return no_call(len);
-    };
-    let Number::Value(length) = place(count, 0) else {
-        return no_call(len);
-    };
-    made(out, len, flash, length)
+fn bytes(out: &mut Output, line: &[u8], flash: &mut [u8]) -> Option<usize> {
+    made(out, flash, number_at(line, 2)?)
 }
 
-fn bytes(out: &mut Output, len: usize, line: &[u8], flash: &mut [u8]) -> Reply {
-    let Number::Value(length) = number_at(line, 2) else {
-        return no_call(len);
-    };
-    made(out, len, flash, length)
+fn poke(out: &mut Output, line: &[u8], flash: &mut [u8]) -> Option<()> {
+    let mut bytes = space::<LINE_ROOM>(0);
+    let at = place_in(line)?;
+    let n = bytes_at(line, 4, &mut bytes)?;
+    put(part_at_mut(flash, at, n)?, &bytes);
+    out.say_line(Word::Ok);
+    Some(())
 }
 
-fn poke(out: &mut Output, len: usize, line: &[u8], flash: &mut [u8]) -> Reply {
-    let mut bytes = line_space();
-    let Number::Value(at) = place_in(line) else {
-        return no_call(len);
-    };
-    let Number::Value(n) = bytes_at(line, 4, &mut bytes) else {
-        return no_call(len);
-    };
-    if !fits(len, at, n) {
-        return no_call(len);
-    }
-    put_at(flash, at, part_of(&bytes, 0, n));
-    say(out, Word::Ok);
-    end_line(out);
-    called(len)
-}
-
-fn fill(out: &mut Output, len: usize, line: &[u8], flash: &mut [u8]) -> Reply {
+fn fill(out: &mut Output, line: &[u8], flash: &mut [u8]) -> Option<()> {
     let mut value = [0; 1];
-    let Number::Value(at) = place_in(line) else {
-        return no_call(len);
-    };
-    let Number::Value(count) = number_at(line, 4) else {
-        return no_call(len);
-    };
-    let Number::Value(n) = bytes_at(line, 5, &mut value) else {
-        return no_call(len);
-    };
-    if (n != 1) | !fits(len, at, count) {
-        return no_call(len);
+    let at = place_in(line)?;
+    let count = number_at(line, 4)?;
+    let n = bytes_at(line, 5, &mut value)?;
+    if n != 1 {
+        return None;
     }
-    wipe_at(flash, at, count, value[0]);
-    say(out, Word::Ok);
-    end_line(out);
-    called(len)
+    part_at_mut(flash, at, count)?.fill(value[0]);
+    out.say_line(Word::Ok);
+    Some(())
 }
 
-fn dump(out: &mut Output, len: usize, line: &[u8], flash: &[u8]) -> Reply {
-    let Number::Value(at) = place_in(line) else {
-        return no_call(len);
-    };
-    let Number::Value(count) = number_at(line, 4) else {
-        return no_call(len);
-    };
-    if (PAGE_SIZE < count) | !fits(len, at, count) {
-        return no_call(len);
+fn dump(out: &mut Output, line: &[u8], flash: &[u8]) -> Option<()> {
+    let at = place_in(line)?;
+    let count = number_at(line, 4)?;
+    if PAGE_SIZE < count {
+        return None;
     }
-    say(out, Word::Ok);
-    say_bytes(out, part_of(flash, at, count));
-    end_line(out);
-    called(len)
+    let bytes = part_at(flash, at, count)?;
+    out.say(Word::Ok);
+    out.say_line(bytes);
+    Some(())
 }
 
-fn sum(out: &mut Output, len: usize, line: &[u8], flash: &[u8]) -> Reply {
-    let Number::Value(page) = number_at(line, 2) else {
-        return no_call(len);
-    };
-    let Number::Value(at) = place(page, 0) else {
-        return no_call(len);
-    };
-    if !fits(len, at, PAGE_SIZE) {
-        return no_call(len);
-    }
-    say(out, Word::Ok);
-    say(out, Word::Sum(crc32(part_of(flash, at, PAGE_SIZE))));
-    end_line(out);
-    called(len)
+fn sum(out: &mut Output, line: &[u8], flash: &[u8]) -> Option<()> {
+    let page = number_at(line, 2)?;
+    let bytes = part_at(flash, place(page, 0)?, PAGE_SIZE)?;
+    out.say(Word::Ok);
+    out.say_line(Sum(crc32(bytes)));
+    Some(())
 }
 
-fn on_flash(out: &mut Output, len: usize, line: &[u8], flash: &mut [u8]) -> Reply {
-    let name = nth_word(line, 1);
-    let words = word_count(line);
-    if same(name, b"pages") & (words == 3) {
-        return pages(out, len, line, flash);
+fn on_flash(out: &mut Output, len: usize, line: &[u8], buffer: &mut [u8]) -> Option<usize> {
+    let n = len.min(buffer.len());
+    match (nth_word(line, 1), word_count(line)) {
+        (b"pages", 3) => return pages(out, line, buffer),
+        (b"bytes", 3) => return bytes(out, line, buffer),
+        (b"poke", 5) => poke(out, line, &mut buffer[..n])?,
+        (b"fill", 6) => fill(out, line, &mut buffer[..n])?,
+        (b"dump", 5) => dump(out, line, &buffer[..n])?,
+        (b"sum", 3) => sum(out, line, &buffer[..n])?,
+        _ => return None,
     }
-    if same(name, b"bytes") & (words == 3) {
-        return bytes(out, len, line, flash);
-    }
-    if same(name, b"poke") & (words == 5) {
-        return poke(out, len, line, flash);
-    }
-    if same(name, b"fill") & (words == 6) {
-        return fill(out, len, line, flash);
-    }
-    if same(name, b"dump") & (words == 5) {
-        return dump(out, len, line, flash);
-    }
-    if same(name, b"sum") & (words == 3) {
-        return sum(out, len, line, flash);
-    }
-    no_call(len)
+    Some(len)
 }
 
-// Answers a line that starts with `flash` or `crc`, on a flash of `len` bytes at the start of a buffer.
-pub fn answer(out: &mut Output, len: usize, line: &[u8], flash: &mut [u8]) -> Reply {
-    if same(nth_word(line, 0), b"crc") {
-        return sums::answer(out, len, line);
+// Answers a line that starts with `flash` or `crc`, on a flash of `len` bytes at the start of a buffer: how many bytes it has then, or
+// none where the line is no call.
+pub fn answer(out: &mut Output, len: usize, line: &[u8], buffer: &mut [u8]) -> Option<usize> {
+    match nth_word(line, 0) {
+        b"crc" => sums::answer(out, line).map(|()| len),
+        _ => on_flash(out, len, line, buffer),
     }
-    on_flash(out, len, line, flash)
 }

@@ -1,21 +1,18 @@
 // Calls on the reader.
 use crate::slots;
-use crate::slots::{Fields, fields_at, say_fields};
-use crate::state::{Reply, State, called, no_call, with_reader};
-use digits::number::{Number, Word32};
-use reader::answers::{Count, EndTest, Opening, Passage};
+use crate::slots::{fields_at, say_fields};
+use crate::state::State;
+use reader::answers::EndTest;
 use reader::dehydrated::DehydratedPageReader;
 use reader::header;
 use reader::page_reader::PageReader;
+use replay_say::Output;
+use replay_say::said::Said;
 use replay_say::word::Word;
-use replay_say::{Output, end_line, say, say_bytes};
-use script::args::{Page, magic_at, number_at, page_at};
-use script::space::line_space;
-use script::words::{nth_word, same, word_count};
+use script::args::{magic_at, number_at, page_at};
+use script::words::{nth_word, word_count};
 use slices::part::part_of;
-use types::answers::{Outcome, PageOf};
 use types::config::MAX_HEADER_SIZE;
-use types::num::min;
 use types::page_id::PageID;
 
 // The longest buffer that a script reads into.
@@ -32,248 +29,91 @@ struct Named {
     h: usize,
 }
 
-#[derive(Clone, Copy)]
-enum Name {
-    Is(Named),
-    NoName,
+fn name_in(line: &[u8]) -> Option<Named> {
+    let magic = magic_at(line, 2)?;
+    let page = page_at(line, 3)?;
+    let h = number_at(line, 4)?;
+    Some(Named { magic, page, h })
 }
 
-fn name_in(line: &[u8]) -> Name {
-    let Word32::Word(magic) = magic_at(line, 2) else {
-        return Name::NoName;
-    };
-    let Page::Number(page) = page_at(line, 3) else {
-        return Name::NoName;
-    };
-    let Number::Value(h) = number_at(line, 4) else {
-        return Name::NoName;
-    };
-    Name::Is(Named { magic, page, h })
+// Says what a call answered. The state with the reader that it leaves.
+pub(crate) fn moved<A: Said>(out: &mut Output, w: State, answer: A, reader: PageReader) -> State {
+    out.say_line(answer);
+    State { reader, ..w }
 }
 
-fn kept_of(r: PageReader) -> DehydratedPageReader {
-    let page = r.page;
-    DehydratedPageReader {
-        page,
-        ended: r.ended,
-        offset: r.offset,
-        len: r.len,
-        crc: r.crc,
-        position: r.position,
-    }
-}
-
-fn reader_of(d: DehydratedPageReader) -> PageReader {
-    let page = d.page;
-    PageReader {
-        page,
-        ended: d.ended,
-        offset: d.offset,
-        len: d.len,
-        crc: d.crc,
-        position: d.position,
-    }
-}
-
-// The higher header, or the refusal.
-fn say_header(out: &mut Output, answer: Outcome, header: &[u8]) {
-    match answer {
-        Outcome::Done => {
-            say(out, Word::Ok);
-            say_bytes(out, header);
-        }
-        Outcome::Refused(why) => say(out, Word::No(why)),
-    }
-    end_line(out);
-}
-
-fn open_into(r: PageReader, flash: &[u8], named: Named, header: &mut [u8]) -> Opening {
-    let n = min(named.h, header.len());
-    let page = named.page;
-    r.open(flash, named.magic, page, &mut header[0..n])
-}
-
-fn open(out: &mut Output, w: State, line: &[u8], flash: &[u8]) -> Reply {
+fn open(out: &mut Output, w: State, line: &[u8], flash: &[u8]) -> Option<State> {
     let mut header = [0; HEADER_ROOM];
-    let Name::Is(named) = name_in(line) else {
-        return no_call(w);
-    };
-    let r = w.reader;
-    let opening = open_into(r, flash, named, &mut header);
-    let answer = opening.answer;
-    say_header(out, answer, part_of(&header, 0, named.h));
-    let reader = opening.reader;
-    with_reader(w, reader)
+    let named = name_in(line)?;
+    let n = named.h.min(HEADER_ROOM);
+    let opening = w
+        .reader
+        .open(flash, named.magic, named.page, &mut header[..n]);
+    let answer = opening.answer.map(|()| part_of(&header, 0, n));
+    Some(moved(out, w, answer, opening.reader))
 }
 
-fn header_into(flash: &[u8], named: Named, header: &mut [u8]) -> Outcome {
-    let n = min(named.h, header.len());
-    let page = named.page;
-    header::read_header(flash, named.magic, page, &mut header[0..n])
-}
-
-fn read_header(out: &mut Output, w: State, line: &[u8], flash: &[u8]) -> Reply {
+fn read_header(out: &mut Output, w: State, line: &[u8], flash: &[u8]) -> Option<State> {
     let mut header = [0; HEADER_ROOM];
-    let Name::Is(named) = name_in(line) else {
-        return no_call(w);
-    };
-    let answer = header_into(flash, named, &mut header);
-    say_header(out, answer, part_of(&header, 0, named.h));
-    called(w)
+    let named = name_in(line)?;
+    let n = named.h.min(HEADER_ROOM);
+    let answer = header::read_header(flash, named.magic, named.page, &mut header[..n]);
+    out.say_line(answer.map(|()| part_of(&header, 0, n)));
+    Some(w)
 }
 
-fn read_into(r: PageReader, flash: &[u8], room: usize, buffer: &mut [u8]) -> Passage {
-    let n = min(room, buffer.len());
-    r.read(flash, &mut buffer[0..n])
+fn read(out: &mut Output, w: State, line: &[u8], flash: &[u8]) -> Option<State> {
+    let mut buffer = [0; MOST_ROOM];
+    let room = buffer.get_mut(..number_at(line, 2)?)?;
+    let passage = w.reader.read(flash, room);
+    let answer = passage.answer.map(|n| part_of(&buffer, 0, n));
+    Some(moved(out, w, answer, passage.reader))
 }
 
-fn read(out: &mut Output, w: State, line: &[u8], flash: &[u8]) -> Reply {
-    let mut buffer = line_space();
-    let Number::Value(room) = number_at(line, 2) else {
-        return no_call(w);
-    };
-    if MOST_ROOM < room {
-        return no_call(w);
-    }
-    let r = w.reader;
-    let passage = read_into(r, flash, room, &mut buffer);
-    let answer = passage.answer;
-    match answer {
-        Count::Bytes(n) => {
-            say(out, Word::Ok);
-            say_bytes(out, part_of(&buffer, 0, n));
+fn skip(out: &mut Output, w: State, line: &[u8], flash: &[u8]) -> Option<State> {
+    let count = number_at(line, 2)?;
+    let passage = w.reader.skip(flash, count);
+    Some(moved(out, w, passage.answer, passage.reader))
+}
+
+fn is_at_eof(out: &mut Output, w: State, flash: &[u8]) -> State {
+    let tested = w.reader.is_at_eof(flash);
+    let answer = tested.answer.map(|test| test == EndTest::AtEnd);
+    moved(out, w, answer, tested.reader)
+}
+
+fn forge(out: &mut Output, w: State, line: &[u8]) -> Option<State> {
+    let fields = fields_at(line, 2)?;
+    Some(moved(out, w, Word::Ok, PageReader::from(fields)))
+}
+
+fn of_reader(out: &mut Output, w: State, line: &[u8], flash: &[u8]) -> Option<State> {
+    match (nth_word(line, 1), word_count(line)) {
+        (b"new", 2) => Some(moved(out, w, Word::Ok, PageReader::new())),
+        (b"open", 5) => open(out, w, line, flash),
+        (b"read_header", 5) => read_header(out, w, line, flash),
+        (b"read", 3) => read(out, w, line, flash),
+        (b"skip", 3) => skip(out, w, line, flash),
+        (b"is_at_eof", 2) => Some(is_at_eof(out, w, flash)),
+        (b"page_id", 2) => {
+            out.say_line(w.reader.page_id());
+            Some(w)
         }
-        Count::Refused(why) => say(out, Word::No(why)),
-    }
-    end_line(out);
-    let reader = passage.reader;
-    with_reader(w, reader)
-}
-
-fn skip(out: &mut Output, w: State, line: &[u8], flash: &[u8]) -> Reply {
-    let Number::Value(count) = number_at(line, 2) else {
-        return no_call(w);
-    };
-    let r = w.reader;
-    let passage = r.skip(flash, count);
-    let answer = passage.answer;
-    match answer {
-        Count::Bytes(n) => {
-            say(out, Word::Ok);
-            say(out, Word::Number(n));
+        (b"dehydrate", 3) => slots::dehydrate(out, w, line),
+        (b"rehydrate_from", 3) => slots::rehydrate_from(out, w, line, flash),
+        (b"forge", 8) => forge(out, w, line),
+        (b"state", 2) => {
+            say_fields(out, DehydratedPageReader::from(w.reader));
+            Some(w)
         }
-        Count::Refused(why) => say(out, Word::No(why)),
+        _ => None,
     }
-    end_line(out);
-    let reader = passage.reader;
-    with_reader(w, reader)
 }
 
-fn is_at_eof(out: &mut Output, w: State, flash: &[u8]) -> Reply {
-    let r = w.reader;
-    let tested = r.is_at_eof(flash);
-    let answer = tested.answer;
-    match answer {
-        EndTest::AtEnd => {
-            say(out, Word::Ok);
-            say(out, Word::Number(1));
-        }
-        EndTest::More => {
-            say(out, Word::Ok);
-            say(out, Word::Number(0));
-        }
-        EndTest::Refused(why) => say(out, Word::No(why)),
+// Answers a line that starts with `reader` or `slot`: the states that are left, or none where the line is no call.
+pub fn answer(out: &mut Output, w: State, line: &[u8], flash: &[u8]) -> Option<State> {
+    match nth_word(line, 0) {
+        b"slot" => slots::answer(out, w, line),
+        _ => of_reader(out, w, line, flash),
     }
-    end_line(out);
-    let reader = tested.reader;
-    with_reader(w, reader)
-}
-
-fn page_id(out: &mut Output, w: State) -> Reply {
-    let r = w.reader;
-    match r.page_id() {
-        PageOf::Page(page) => {
-            say(out, Word::Ok);
-            say(out, Word::Number(page.index()));
-        }
-        PageOf::Refused(why) => say(out, Word::No(why)),
-    }
-    end_line(out);
-    called(w)
-}
-
-fn forge(out: &mut Output, w: State, line: &[u8]) -> Reply {
-    let Fields::Are(fields) = fields_at(line, 2) else {
-        return no_call(w);
-    };
-    say(out, Word::Ok);
-    end_line(out);
-    with_reader(w, reader_of(fields))
-}
-
-// Calls of two words.
-fn short(out: &mut Output, w: State, name: &[u8], flash: &[u8]) -> Reply {
-    if same(name, b"new") {
-        say(out, Word::Ok);
-        end_line(out);
-        return with_reader(w, PageReader::new());
-    }
-    if same(name, b"is_at_eof") {
-        return is_at_eof(out, w, flash);
-    }
-    if same(name, b"page_id") {
-        return page_id(out, w);
-    }
-    if same(name, b"state") {
-        let r = w.reader;
-        say_fields(out, kept_of(r));
-        return called(w);
-    }
-    no_call(w)
-}
-
-// Calls of three words.
-fn middle(out: &mut Output, w: State, name: &[u8], line: &[u8], flash: &[u8]) -> Reply {
-    if same(name, b"read") {
-        return read(out, w, line, flash);
-    }
-    if same(name, b"skip") {
-        return skip(out, w, line, flash);
-    }
-    if same(name, b"dehydrate") {
-        return slots::dehydrate(out, w, line);
-    }
-    if same(name, b"rehydrate_from") {
-        return slots::rehydrate_from(out, w, line, flash);
-    }
-    no_call(w)
-}
-
-fn of_reader(out: &mut Output, w: State, line: &[u8], flash: &[u8]) -> Reply {
-    let name = nth_word(line, 1);
-    let words = word_count(line);
-    if words == 2 {
-        return short(out, w, name, flash);
-    }
-    if words == 3 {
-        return middle(out, w, name, line, flash);
-    }
-    if same(name, b"open") & (words == 5) {
-        return open(out, w, line, flash);
-    }
-    if same(name, b"read_header") & (words == 5) {
-        return read_header(out, w, line, flash);
-    }
-    if same(name, b"forge") & (words == 8) {
-        return forge(out, w, line);
-    }
-    no_call(w)
-}
-
-// Answers a line that starts with `reader` or `slot`.
-pub fn answer(out: &mut Output, w: State, line: &[u8], flash: &[u8]) -> Reply {
-    if same(nth_word(line, 0), b"slot") {
-        return slots::answer(out, w, line);
-    }
-    of_reader(out, w, line, flash)
 }

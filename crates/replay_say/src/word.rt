@@ -1,4 +1,5 @@
-// The words of an answer, but for bytes.
+// The words of an answer, but for its numbers and bytes.
+use std::fmt;
 use types::refusal::Refusal;
 
 #[derive(Clone, Copy)]
@@ -10,14 +11,23 @@ pub enum Word {
     None,
     // No entry is left.
     End,
-    Number(usize),
-    // A number that may be below zero.
-    Signed(isize),
-    // 32 bits as eight digits in hex.
-    Sum(u32),
     // The place of a run that is gone.
     Gone,
     // What is done to the flash: an erase, and a store, behind which its offset and its bytes stand.
     Erase,
     Store,
+}
+
+impl fmt::Display for Word {
+    fn fmt<W: fmt::Write>(&self, f: &mut fmt::Formatter<W>) -> fmt::Result {
+        match *self {
+            Word::Ok => write!(f, "ok"),
+            Word::No(why) => write!(f, "no {}", why.number()),
+            Word::None => write!(f, "none"),
+            Word::End => write!(f, "end"),
+            Word::Gone => write!(f, " gone"),
+            Word::Erase => write!(f, " e"),
+            Word::Store => write!(f, " s"),
+        }
+    }
 }

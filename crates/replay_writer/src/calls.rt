@@ -1,208 +1,118 @@
 // Calls on the writer.
-use crate::state::{Reply, State, called, no_call};
-use crate::stores::{Call, say_done};
-use digits::number::{Number, Word32};
+use crate::state::State;
+use crate::stores::say_done;
+use replay_say::Output;
+use replay_say::said::{Said, Sum};
 use replay_say::word::Word;
-use replay_say::{Output, end_line, say, say_bytes};
-use script::args::{Flag, Page, bytes_at, flag_at, magic_at, number_at, page_at, word32_at};
-use script::space::line_space;
-use script::words::{nth_word, same, word_count};
+use script::args::{bytes_at, flag_at, magic_at, number_at, page_at, word32_at};
+use script::space::{LINE_ROOM, space};
+use script::words::{nth_word, word_count};
 use slices::part::part_of;
-use types::answers::{Outcome, PageOf};
 use types::config::ALIGN;
-use types::num::{min, minus};
-use writer::answers::{Ended, Length, Taking};
+use types::page_id::PageID;
+use writer::answers::Ended;
 use writer::page_writer::PageWriter;
 
-fn left_with(writer: PageWriter, left: usize) -> Reply {
-    called(State { writer, left })
+fn set_left(out: &mut Output, w: State, line: &[u8]) -> Option<State> {
+    let left = number_at(line, 2)?;
+    out.say_line(Word::Ok);
+    Some(State { left, ..w })
 }
 
-fn new_writer(out: &mut Output, w: State) -> Reply {
-    say(out, Word::Ok);
-    end_line(out);
-    left_with(PageWriter::new(), w.left)
-}
-
-fn left(out: &mut Output, w: State, line: &[u8]) -> Reply {
-    let Number::Value(n) = number_at(line, 2) else {
-        return no_call(w);
-    };
-    say(out, Word::Ok);
-    end_line(out);
-    let writer = w.writer;
-    left_with(writer, n)
+// Says what a call answered, and how many stores are left. The state that is left.
+fn ended<T: Said + Drop>(out: &mut Output, ended: Ended<T>) -> State {
+    let Ended {
+        answer,
+        writer,
+        left,
+    } = ended;
+    out.say(answer);
+    out.say(left);
+    State { writer, left }
 }
 
 // An opening makes no operation.
-fn opened(out: &mut Output, change: Ended) -> Reply {
-    say_ended(out, change);
-    say(out, Word::Number(0));
-    end_line(out);
-    let writer = change.writer;
-    left_with(writer, change.left)
+fn opened(out: &mut Output, opening: Ended<()>) -> State {
+    let w = ended(out, opening);
+    out.say_line(0usize);
+    w
 }
 
-fn open(out: &mut Output, w: State, line: &[u8], flash: &[u8]) -> Reply {
-    let Page::Number(page) = page_at(line, 2) else {
-        return no_call(w);
-    };
-    let Number::Value(h) = number_at(line, 3) else {
-        return no_call(w);
-    };
-    let writer = w.writer;
-    opened(out, writer.open(flash, page, h, w.left))
+// The page that is opened, and the length of its higher header.
+fn asked_in(line: &[u8]) -> Option<(PageID, usize)> {
+    Some((page_at(line, 2)?, number_at(line, 3)?))
 }
 
-fn open_append(out: &mut Output, w: State, line: &[u8], flash: &[u8]) -> Reply {
-    let Page::Number(page) = page_at(line, 2) else {
-        return no_call(w);
-    };
-    let Number::Value(h) = number_at(line, 3) else {
-        return no_call(w);
-    };
-    let writer = w.writer;
-    opened(out, writer.open_append(flash, page, h, w.left))
+fn open(out: &mut Output, w: State, line: &[u8], flash: &[u8]) -> Option<State> {
+    let (page, h) = asked_in(line)?;
+    Some(opened(out, w.writer.open(flash, page, h, w.left)))
 }
 
-fn write(out: &mut Output, w: State, line: &[u8], flash: &mut [u8]) -> Reply {
-    let mut space = line_space();
-    let Number::Value(n) = bytes_at(line, 2, &mut space) else {
-        return no_call(w);
-    };
+fn open_append(out: &mut Output, w: State, line: &[u8], flash: &[u8]) -> Option<State> {
+    let (page, h) = asked_in(line)?;
+    Some(opened(out, w.writer.open_append(flash, page, h, w.left)))
+}
+
+// Makes a call that stores, and says what it answered and what it did to the flash.
+fn stored<T: Said + Drop, C: Fn(PageWriter, &mut [u8], usize) -> Ended<T>>(
+    out: &mut Output,
+    w: State,
+    flash: &mut [u8],
+    call: C,
+) -> State
+    requires { C.IsAlwaysCallable call }
+{
+    let next = ended(out, call(w.writer, flash, w.left));
+    say_done(
+        out,
+        &call,
+        w.writer,
+        flash,
+        w.left.saturating_sub(next.left),
+    );
+    out.end_line();
+    next
+}
+
+fn write(out: &mut Output, w: State, line: &[u8], flash: &mut [u8]) -> Option<State> {
+    let mut space = space::<LINE_ROOM>(0);
+    let n = bytes_at(line, 2, &mut space)?;
     let bytes = part_of(&space, 0, n);
-    let writer = w.writer;
-    let wrote = writer.write(flash, bytes, w.left);
-    let answer = wrote.answer;
-    match answer {
-        Taking::Took(taken) => {
-            say(out, Word::Ok);
-            say(out, Word::Number(taken));
-        }
-        Taking::Refused(why) => say(out, Word::No(why)),
-    }
-    say(out, Word::Number(wrote.left));
-    say_done(
-        out,
-        Call::Write,
-        writer,
-        flash,
-        bytes,
-        minus(w.left, wrote.left),
-    );
-    end_line(out);
-    let next = wrote.writer;
-    left_with(next, wrote.left)
+    Some(stored(out, w, flash, |writer, flash, left| {
+        writer.write(flash, bytes, left)
+    }))
 }
 
-fn say_ended(out: &mut Output, ended: Ended) {
-    let answer = ended.answer;
-    match answer {
-        Outcome::Done => say(out, Word::Ok),
-        Outcome::Refused(why) => say(out, Word::No(why)),
-    }
-    say(out, Word::Number(ended.left));
+fn commit(out: &mut Output, w: State, flash: &mut [u8]) -> State {
+    stored(out, w, flash, |writer, flash, left| {
+        writer.commit(flash, left)
+    })
 }
 
-fn commit(out: &mut Output, w: State, flash: &mut [u8]) -> Reply {
-    let writer = w.writer;
-    let ended = writer.commit(flash, w.left);
-    say_ended(out, ended);
-    say_done(
-        out,
-        Call::Commit,
-        writer,
-        flash,
-        b"",
-        minus(w.left, ended.left),
-    );
-    end_line(out);
-    let next = ended.writer;
-    left_with(next, ended.left)
-}
-
-fn write_header(out: &mut Output, w: State, line: &[u8], flash: &mut [u8]) -> Reply {
-    let mut space = line_space();
-    let Word32::Word(magic) = magic_at(line, 2) else {
-        return no_call(w);
-    };
-    let Number::Value(n) = bytes_at(line, 3, &mut space) else {
-        return no_call(w);
-    };
+fn write_header(out: &mut Output, w: State, line: &[u8], flash: &mut [u8]) -> Option<State> {
+    let mut space = space::<LINE_ROOM>(0);
+    let magic = magic_at(line, 2)?;
+    let n = bytes_at(line, 3, &mut space)?;
     let bytes = part_of(&space, 0, n);
-    let writer = w.writer;
-    let ended = writer.write_header(flash, magic, bytes, w.left);
-    say_ended(out, ended);
-    say_done(
-        out,
-        Call::WriteHeader(magic),
-        writer,
-        flash,
-        bytes,
-        minus(w.left, ended.left),
-    );
-    end_line(out);
-    let next = ended.writer;
-    left_with(next, ended.left)
+    Some(stored(out, w, flash, |writer, flash, left| {
+        writer.write_header(flash, magic, bytes, left)
+    }))
 }
 
-fn len(out: &mut Output, w: State) -> Reply {
-    let writer = w.writer;
-    match writer.len() {
-        Length::Bytes(n) => {
-            say(out, Word::Ok);
-            say(out, Word::Number(n));
-        }
-        Length::Refused(why) => say(out, Word::No(why)),
-    }
-    end_line(out);
-    called(w)
-}
-
-fn page_id(out: &mut Output, w: State) -> Reply {
-    let writer = w.writer;
-    match writer.page_id() {
-        PageOf::Page(page) => {
-            say(out, Word::Ok);
-            say(out, Word::Number(page.index()));
-        }
-        PageOf::Refused(why) => say(out, Word::No(why)),
-    }
-    end_line(out);
-    called(w)
-}
-
-fn forge(out: &mut Output, w: State, line: &[u8]) -> Reply {
+fn forge(out: &mut Output, w: State, line: &[u8]) -> Option<State> {
     let mut buf = [0; ALIGN];
-    let Page::Number(page) = page_at(line, 2) else {
-        return no_call(w);
-    };
-    let Number::Value(h) = number_at(line, 3) else {
-        return no_call(w);
-    };
-    let Flag::Is(armed) = flag_at(line, 4) else {
-        return no_call(w);
-    };
-    let Word32::Word(crc) = word32_at(line, 5) else {
-        return no_call(w);
-    };
-    let Number::Value(n) = bytes_at(line, 6, &mut buf) else {
-        return no_call(w);
-    };
+    let page = page_at(line, 2)?;
+    let h = number_at(line, 3)?;
+    let armed = flag_at(line, 4)?;
+    let crc = word32_at(line, 5)?;
+    let n = bytes_at(line, 6, &mut buf)?;
     if n != ALIGN {
-        return no_call(w);
+        return None;
     }
-    let Number::Value(total) = number_at(line, 7) else {
-        return no_call(w);
-    };
-    let Number::Value(offset) = number_at(line, 8) else {
-        return no_call(w);
-    };
-    let Number::Value(pending) = number_at(line, 9) else {
-        return no_call(w);
-    };
-    say(out, Word::Ok);
-    end_line(out);
+    let total = number_at(line, 7)?;
+    let offset = number_at(line, 8)?;
+    let pending = number_at(line, 9)?;
+    out.say_line(Word::Ok);
     let writer = PageWriter {
         page,
         h,
@@ -213,79 +123,49 @@ fn forge(out: &mut Output, w: State, line: &[u8]) -> Reply {
         offset,
         pending,
     };
-    left_with(writer, w.left)
+    Some(State { writer, ..w })
 }
 
-fn say_group(out: &mut Output, group: [u8; ALIGN]) {
-    say_bytes(out, &group);
-}
-
-fn show(out: &mut Output, w: State) -> Reply {
-    let writer = w.writer;
+fn show(out: &mut Output, writer: PageWriter) {
     let group = writer.buf;
-    let page = writer.page;
-    say(out, Word::Ok);
-    say(out, Word::Number(page.index()));
-    say(out, Word::Number(writer.h));
-    say(out, Word::Number(writer.armed as usize));
-    say(out, Word::Sum(writer.crc));
-    say_group(out, group);
-    say(out, Word::Number(writer.total));
-    say(out, Word::Number(writer.offset));
-    say(out, Word::Number(writer.pending));
-    end_line(out);
-    called(w)
+    out.say(Word::Ok);
+    out.say(writer.page);
+    out.say(writer.h);
+    out.say(writer.armed);
+    out.say(Sum(writer.crc));
+    out.say(&group[..]);
+    out.say(writer.total);
+    out.say(writer.offset);
+    out.say_line(writer.pending);
 }
 
-// Calls that leave the flash alone.
-fn on_writer(out: &mut Output, w: State, name: &[u8], words: usize, line: &[u8]) -> Reply {
-    if same(name, b"left") & (words == 3) {
-        return left(out, w, line);
+// Answers a line that starts with `writer`: the states that are left, or none where the line is no call.
+pub fn answer(out: &mut Output, w: State, line: &[u8], flash: &mut [u8]) -> Option<State> {
+    match (nth_word(line, 1), word_count(line)) {
+        (b"new", 2) => {
+            out.say_line(Word::Ok);
+            let writer = PageWriter::new();
+            Some(State { writer, ..w })
+        }
+        (b"left", 3) => set_left(out, w, line),
+        (b"open", 4) => open(out, w, line, flash),
+        (b"open_append", 4) => open_append(out, w, line, flash),
+        (b"write", 3) => write(out, w, line, flash),
+        (b"commit", 2) => Some(commit(out, w, flash)),
+        (b"write_header", 4) => write_header(out, w, line, flash),
+        (b"forge", 10) => forge(out, w, line),
+        (b"len", 2) => {
+            out.say_line(w.writer.len());
+            Some(w)
+        }
+        (b"page_id", 2) => {
+            out.say_line(w.writer.page_id());
+            Some(w)
+        }
+        (b"state", 2) => {
+            show(out, w.writer);
+            Some(w)
+        }
+        _ => None,
     }
-    if same(name, b"forge") & (words == 10) {
-        return forge(out, w, line);
-    }
-    if words != 2 {
-        return no_call(w);
-    }
-    if same(name, b"new") {
-        return new_writer(out, w);
-    }
-    if same(name, b"len") {
-        return len(out, w);
-    }
-    if same(name, b"page_id") {
-        return page_id(out, w);
-    }
-    if same(name, b"state") {
-        return show(out, w);
-    }
-    no_call(w)
-}
-
-fn on_flash(out: &mut Output, w: State, line: &[u8], flash: &mut [u8]) -> Reply {
-    let name = nth_word(line, 1);
-    let words = word_count(line);
-    if same(name, b"open") & (words == 4) {
-        return open(out, w, line, flash);
-    }
-    if same(name, b"open_append") & (words == 4) {
-        return open_append(out, w, line, flash);
-    }
-    if same(name, b"write") & (words == 3) {
-        return write(out, w, line, flash);
-    }
-    if same(name, b"commit") & (words == 2) {
-        return commit(out, w, flash);
-    }
-    if same(name, b"write_header") & (words == 4) {
-        return write_header(out, w, line, flash);
-    }
-    on_writer(out, w, name, words, line)
-}
-
-// Answers a line that starts with `writer`, on a flash of `len` bytes at the start of a buffer.
-pub fn answer(out: &mut Output, w: State, line: &[u8], len: usize, flash: &mut [u8]) -> Reply {
-    let n = min(len, flash.len());
-    on_flash(out, w, line, &mut flash[..n])
 }

@@ -3,45 +3,20 @@
 // and each of its bytes makes a difference to a page of 00 or to one of FF.
 use flash::geometry::page_of;
 use flash::ops::{erase_if, store_if};
+use replay_say::Output;
 use replay_say::word::Word;
-use replay_say::{Output, say, say_bytes};
-use script::space::page_space;
-use slices::part::{part_of, put};
-use types::num::{min, minus};
+use script::space::space;
+use slices::part::{part_to, put};
+use types::config::PAGE_SIZE;
 use types::page_id::PageID;
+use writer::answers::Ended;
 use writer::page_writer::PageWriter;
-
-// A call that stores. The bytes of write and write_header stand beside it.
-#[derive(Clone, Copy)]
-pub(crate) enum Call {
-    Write,
-    Commit,
-    // write_header, with its magic.
-    WriteHeader(u32),
-}
 
 // The bytes of a page from an offset up to another, and none where they cross.
 #[derive(Clone, Copy)]
 struct Span {
     from: usize,
     end: usize,
-}
-
-// Makes the call with the erase disarmed.
-fn make(call: Call, writer: PageWriter, flash: &mut [u8], bytes: &[u8], left: usize) {
-    let mut w = writer;
-    w.armed = false;
-    match call {
-        Call::Write => {
-            w.write(flash, bytes, left);
-        }
-        Call::Commit => {
-            w.commit(flash, left);
-        }
-        Call::WriteHeader(magic) => {
-            w.write_header(flash, magic, bytes, left);
-        }
-    }
 }
 
 fn wipe_page(flash: &mut [u8], page: PageID, value: u8) {
@@ -54,12 +29,11 @@ fn put_page(flash: &mut [u8], page: PageID, bytes: &[u8]) {
 
 // From the first difference to the last.
 fn difference(a: &[u8], b: &[u8]) -> Span {
-    let n = min(a.len(), b.len());
-    let mut from = n;
+    let mut from = a.len().min(b.len());
     let mut end = 0;
-    for i in 0..n {
-        if a[i] != b[i] {
-            from = min(from, i);
+    for (i, (x, y)) in a.iter().zip(b).enumerate() {
+        if x != y {
+            from = from.min(i);
             end = i + 1;
         }
     }
@@ -67,78 +41,69 @@ fn difference(a: &[u8], b: &[u8]) -> Span {
 }
 
 // The bytes that the k-th store changes in a page of one value, which is left with k stores made.
-fn changed_on(
+fn changed_on<C: Fn(&mut [u8], usize)>(
     value: u8,
-    call: Call,
-    writer: PageWriter,
+    make: &C,
+    page: PageID,
     flash: &mut [u8],
-    bytes: &[u8],
     k: usize,
-) -> Span {
-    let page = writer.page;
-    let mut before = page_space();
+) -> Span
+    requires { C.IsAlwaysCallable make.now }
+{
+    let mut before = space::<PAGE_SIZE>(0);
     wipe_page(flash, page, value);
-    make(call, writer, flash, bytes, minus(k, 1));
+    make(flash, k.saturating_sub(1));
     put(&mut before, page_of(flash, page));
-    make(call, writer, flash, bytes, k);
+    make(flash, k);
     difference(&before, page_of(flash, page))
 }
 
 // Says the k-th store.
-fn say_store(
+fn say_store<C: Fn(&mut [u8], usize)>(
     out: &mut Output,
-    call: Call,
-    writer: PageWriter,
+    make: &C,
+    page: PageID,
     flash: &mut [u8],
-    bytes: &[u8],
     k: usize,
-) {
-    let a = changed_on(0x00, call, writer, flash, bytes, k);
-    let b = changed_on(0xFF, call, writer, flash, bytes, k);
-    let from = min(a.from, b.from);
-    let end = if a.end < b.end { b.end } else { a.end };
-    say(out, Word::Store);
-    say(out, Word::Number(from));
-    say_bytes(
-        out,
-        part_of(page_of(flash, writer.page), from, minus(end, from)),
-    );
-}
-
-fn say_stores(
-    out: &mut Output,
-    call: Call,
-    writer: PageWriter,
-    flash: &mut [u8],
-    bytes: &[u8],
-    count: usize,
-) {
-    for i in 0..count {
-        say_store(out, call, writer, flash, bytes, i + 1);
-    }
-}
-
-fn say_erase(out: &mut Output, due: bool) {
-    if due {
-        say(out, Word::Erase);
-    }
+)
+    requires { C.IsAlwaysCallable make.now }
+{
+    let a = changed_on(0x00, make, page, flash, k);
+    let b = changed_on(0xFF, make, page, flash, k);
+    let from = a.from.min(b.from);
+    let end = a.end.max(b.end);
+    out.say(Word::Store);
+    out.say(from);
+    out.say(part_to(page_of(flash, page), from, end));
 }
 
 // Says how many operations a call of this writer made, and which: an armed erase is the first. The flash is as before in the end.
-pub(crate) fn say_done(
+pub(crate) fn say_done<T: Drop, C: Fn(PageWriter, &mut [u8], usize) -> Ended<T>>(
     out: &mut Output,
-    call: Call,
+    call: &C,
     writer: PageWriter,
     flash: &mut [u8],
-    bytes: &[u8],
     count: usize,
-) {
+)
+    requires { C.IsAlwaysCallable call.now }
+{
     let page = writer.page;
-    let erases = min(count, writer.armed as usize);
-    let mut kept = page_space();
+    let erases = count.min(writer.armed as usize);
+    let disarmed = PageWriter {
+        armed: false,
+        ..writer
+    };
+    let make = |flash: &mut [u8], left: usize| {
+        call(disarmed, flash, left);
+    };
+    let mut kept = space::<PAGE_SIZE>(0);
     put(&mut kept, page_of(flash, page));
-    say(out, Word::Number(count));
-    say_erase(out, erases != 0);
-    say_stores(out, call, writer, flash, bytes, minus(count, erases));
+    out.say(count);
+    if erases != 0 {
+        out.say(Word::Erase);
+    }
+    for i in 0..count.saturating_sub(erases) {
+        say_store(out, &make, page, flash, i + 1);
+    }
     put_page(flash, page, &kept);
 }

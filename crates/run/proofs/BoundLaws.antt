@@ -5,12 +5,11 @@ use mathlib.Core.List.{List}
 use Prim.Native.Nat.{ℕ}
 use native.Mathlib.Omega.{arith}
 use Rattle.keys.specs.Keys.{compare_keys}
-use Rattle.keys.specs.declared.order.Ordering.{Ordering}
-use Rattle.keys.specs.declared.order.Ordering.TheVariants.{Less, Equal, Greater}
+use Rattle.std.specs.declared.cmp.Ordering.{Ordering}
+use Rattle.std.specs.declared.cmp.Ordering.TheVariants.{Less, Equal, Greater}
 use Rattle.keys.proofs.OrderLaws.{turned, is_less, above-third}
 use Rattle.run.specs.Bounds.{past_by, is_past}
-use Rattle.run.specs.declared.bound.Bound.{Bound}
-use Rattle.run.specs.declared.bound.Bound.TheVariants.{Unbounded, Included, Excluded}
+use Rattle.run.specs.Kinds.{Bound, Unbounded, Included, Excluded}
 
 pub past_by-unbounded : (o : Ordering) → past_by Unbounded o ≡ false
 unfolding past_by

@@ -1,5 +1,8 @@
 -- A record lies in its run: its key after the header, its value after the key, both within their limits, and all of it
 -- before the run's end. Assumes nothing.
+use Rattle.std.specs.Prelude.{Ok, Err, Some, None}
+use Rattle.std.specs.declared.result.Result.{Result}
+use Rattle.types.specs.declared.refusal.Refusal.{Refusal}
 use mathlib.Core.Path.{◌≡◌, refl}
 use mathlib.Core.Bool.{Bool, true, false, cond}
 use mathlib.Core.List.{List}
@@ -10,12 +13,8 @@ use lib.ListN.{length, get_or}
 use borrow.Author.Tests.{ltb-false}
 use Rattle.types.specs.Build.{max_key_size, max_value_size}
 use Rattle.types.specs.declared.refusal.Refusal.TheVariants.{Corrupted}
-use Rattle.run.specs.Records.{record_header_size, has_mark, verdict_of, key_len, value_len, record_with, body_at, head_by, head_at}
+use Rattle.run.specs.Records.{record_header_size, has_mark, verdict_of, key_len, value_len, record_with, body_at, head_by, head_at, Head}
 use Rattle.run.specs.declared.record.Record.{Record}
-use Rattle.run.specs.declared.record.Head.{Head}
-use Rattle.run.specs.declared.record.Head.TheVariants as head
-use Rattle.run.specs.declared.record.KindVerdict.{KindVerdict}
-use Rattle.run.specs.declared.record.KindVerdict.TheVariants as verdict
 
 -- where a record lies, whose header has `size` bytes
 pub record Lies (size : ℕ) (run : List ℕ) (at : ℕ) (r : Record) : Type 0 where
@@ -28,17 +27,17 @@ pub record Lies (size : ℕ) (run : List ℕ) (at : ℕ) (r : Record) : Type 0 w
 
 -- a head that is a record lies in its run
 abbrev HeadLies : ℕ → List ℕ → ℕ → Head → Type 0
-HeadLies size run at head.Nothing = Unit {0}
-HeadLies size run at (head.Record r) = Lies size run at r
-HeadLies size run at (head.Refused why) = Unit {0}
+HeadLies size run at (Ok None) = Unit {0}
+HeadLies size run at (Ok (Some r)) = Lies size run at r
+HeadLies size run at (Err why) = Unit {0}
 
 module _ (size : ℕ) (run : List ℕ) (at : ℕ) where
   body-by : (deleted : Bool) (k v end : Bool) → ltb max_key_size (key_len run at) ≡ k → ltb max_value_size (value_len run at) ≡ v
       → ltb (length run) (at + size + key_len run at + value_len run at) ≡ end
       → HeadLies size run at
-      (cond k (head.Refused Corrupted)
-      (cond v (head.Refused Corrupted)
-      (cond end (head.Refused Corrupted) (head.Record (record_with deleted (at + size) (key_len run at) (value_len run at))))))
+      (cond k (Err Corrupted)
+      (cond v (Err Corrupted)
+      (cond end (Err Corrupted) (Ok (Some (record_with deleted (at + size) (key_len run at) (value_len run at)))))))
   body-by deleted true v end p q e = tt
   body-by deleted false true end p q e = tt
   body-by deleted false false true p q e = tt
@@ -59,21 +58,20 @@ module _ (size : ℕ) (run : List ℕ) (at : ℕ) where
   unfolding body_at
   body-lies deleted = body-by deleted _ _ _ refl refl refl
 
-by-verdict : (run : List ℕ) (at : ℕ) (v : KindVerdict) → HeadLies record_header_size run at (head_by v run at)
+by-verdict : (run : List ℕ) (at : ℕ) (v : Result Bool Refusal) → HeadLies record_header_size run at (head_by v run at)
 unfolding head_by
-by-verdict run at verdict.Live = body-lies record_header_size run at false
-by-verdict run at verdict.Deleted = body-lies record_header_size run at true
-by-verdict run at (verdict.Refused why) = tt
+by-verdict run at (Ok deleted) = body-lies record_header_size run at deleted
+by-verdict run at (Err why) = tt
 
-head-by : (run : List ℕ) (at : ℕ) (v : KindVerdict) (end short mark : Bool)
+head-by : (run : List ℕ) (at : ℕ) (v : Result Bool Refusal) (end short mark : Bool)
     → HeadLies record_header_size run at
-    (cond end head.Nothing (cond short (head.Refused Corrupted) (cond mark (head_by v run at) (head.Refused Corrupted))))
+    (cond end (Ok None) (cond short (Err Corrupted) (cond mark (head_by v run at) (Err Corrupted))))
 head-by run at v true short mark = tt
 head-by run at v false true mark = tt
 head-by run at v false false true = by-verdict run at v
 head-by run at v false false false = tt
 
-pub head-lies : (run : List ℕ) (at : ℕ) (r : Record) → head_at run at ≡ head.Record r → Lies record_header_size run at r
+pub head-lies : (run : List ℕ) (at : ℕ) (r : Record) → head_at run at ≡ Ok (Some r) → Lies record_header_size run at r
 unfolding head_at
 head-lies run at r e =
     rw e at

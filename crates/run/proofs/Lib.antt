@@ -2,6 +2,5 @@ pub mod AnswerLaws
 pub mod BoundLaws
 pub mod FitLaws
 pub mod ItemLaws
-pub mod RecordLaws
 pub mod RecordsHold
 pub mod SearchLaws

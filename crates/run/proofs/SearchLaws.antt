@@ -1,27 +1,30 @@
 -- The search for a lower bound, head by head, and one turn of its loop. Assumes nothing.
+use Rattle.std.specs.Prelude.{Ok, Err, Some, None}
+use Rattle.std.specs.declared.option.Option.{Option}
+use Rattle.std.specs.declared.result.Result.{Result}
+use Rattle.types.specs.declared.refusal.Refusal.{Refusal}
 use mathlib.Core.Path.{◌≡◌, refl, sym, ◌∙◌}
 use mathlib.Core.List.{List}
+use mathlib.Core.Logic.{◌⊎◌, inl, inr}
 use Prim.Native.Nat.{ℕ, zero, suc, ◌-◌, ◌≤◌, ◌<◌}
 use native.Mathlib.Omega.{arith}
 use lib.ListN.{length}
 use Rattle.keys.specs.Keys.{compare_keys}
-use Rattle.run.specs.Records.{record_header_size, head_at, key_in}
-use Rattle.run.specs.Search.{level_at, sought_without, sought_by, sought_head, sought_from, search_in}
-use Rattle.run.specs.declared.bound.Bound.{Bound}
-use Rattle.run.specs.declared.bound.Bound.TheVariants.{Unbounded, Included, Excluded}
-use Rattle.keys.specs.declared.order.Ordering.{Ordering}
-use Rattle.keys.specs.declared.order.Ordering.TheVariants.{Less, Equal, Greater}
+use Rattle.run.specs.Records.{record_header_size, head_at, key_in, Head}
+use Rattle.run.specs.Search.{level_at, sought_by, sought_head, sought_from, search_in}
+use Rattle.run.specs.Kinds.{Bound, Unbounded, Included, Excluded, kind_of, key_of}
+use Rattle.std.specs.Range.Bound.{bound_map}
+use Rattle.std.specs.declared.ops.Bound as std
+use Rattle.std.specs.declared.ops.Bound.TheVariants as lent
+use Rattle.std.specs.declared.cmp.Ordering.{Ordering}
+use Rattle.std.specs.declared.cmp.Ordering.TheVariants.{Less, Equal, Greater}
 use Rattle.run.specs.declared.record.Record.{Record}
-use Rattle.run.specs.declared.record.Head.{Head}
-use Rattle.run.specs.declared.record.Head.TheVariants as head
-use Rattle.run.specs.declared.search.Sought.{Sought}
-use Rattle.run.specs.declared.search.Sought.TheVariants.{Gone, At}
 use Rattle.run.proofs.FitLaws.{Lies, head-lies}
 
 -- ---- what the search comes to
 
 module _ (run lower : List ℕ) where
-  pub search_in-unbounded : search_in run Unbounded lower ≡ At 0
+  pub search_in-unbounded : search_in run Unbounded lower ≡ Ok (Some 0)
   unfolding search_in
   search_in-unbounded = refl
 
@@ -34,44 +37,44 @@ module _ (run lower : List ℕ) where
   search_in-excluded = refl
 
   module _ (heads : ℕ) (bound : Bound) (at : ℕ) where
-    pub sought_from-end : head_at run at ≡ head.Nothing → sought_from (suc heads) run bound lower at ≡ Gone
+    pub sought_from-end : head_at run at ≡ Ok None → sought_from (suc heads) run bound lower at ≡ Ok None
     unfolding sought_from sought_head
     sought_from-end g = rw g
 
-    pub sought_from-record : (r : Record) → head_at run at ≡ head.Record r
+    pub sought_from-record : (r : Record) → head_at run at ≡ Ok (Some r)
         → sought_from (suc heads) run bound lower at
         ≡ sought_by (compare_keys (key_in run r) lower) bound at r.next (λ next. sought_from heads run bound lower next)
     unfolding sought_from sought_head
     sought_from-record r g = rw g
 
-module _ (bound : Bound) (at next : ℕ) (later : ℕ → Sought) where
+module _ (bound : Bound) (at next : ℕ) (later : ℕ → (Result (Option ℕ) Refusal)) where
   pub sought_by-less : sought_by Less bound at next later ≡ later next
   unfolding sought_by
   sought_by-less = refl
 
-  pub sought_by-equal : sought_by Equal bound at next later ≡ At (level_at bound at next)
+  pub sought_by-equal : sought_by Equal bound at next later ≡ Ok (Some (level_at bound at next))
   unfolding sought_by
   sought_by-equal = refl
 
-  pub sought_by-greater : sought_by Greater bound at next later ≡ At at
+  pub sought_by-greater : sought_by Greater bound at next later ≡ Ok (Some at)
   unfolding sought_by
   sought_by-greater = refl
 
 -- ---- a turn
 
--- a bound that there is
-pub sought-bounded : (run : List ℕ) (bound : Bound) (lower : List ℕ) → (bound ≡ Unbounded → ⊥)
-    → sought_from (suc (length run)) run bound lower 0 ≡ search_in run bound lower
+-- what a bound with a key lends to the search is that key
+pub sought-lent : {A : Type 0} (bytes : A → List ℕ) (run : List ℕ) (lower : std.Bound A) (key : A)
+    → (lower ≡ lent.Included key) ⊎ (lower ≡ lent.Excluded key)
+    → sought_from (suc (length run)) run (kind_of lower) (bytes key) 0 ≡ search_in run (kind_of lower) (key_of (bound_map bytes lower))
 unfolding search_in
-sought-bounded run Unbounded lower other = absurd (other refl)
-sought-bounded run Included lower other = refl
-sought-bounded run Excluded lower other = refl
+sought-lent bytes run lower key (inl e) = rw e refl
+sought-lent bytes run lower key (inr e) = rw e refl
 
 -- the search from a position comes to this answer, with heads enough
-abbrev pub Rest : List ℕ → Bound → List ℕ → ℕ → Sought → Type 0
+abbrev pub Rest : List ℕ → Bound → List ℕ → ℕ → Result (Option ℕ) Refusal → Type 0
 Rest run bound lower at answer = (heads : ℕ) × (length run - at < heads) × (sought_from heads run bound lower at ≡ answer)
 
-module _ (run : List ℕ) (bound : Bound) (lower : List ℕ) (at : ℕ) (answer : Sought) where
+module _ (run : List ℕ) (bound : Bound) (lower : List ℕ) (at : ℕ) (answer : Result (Option ℕ) Refusal) where
   -- one head is looked at
   turn_by : (heads : ℕ) → length run - at < heads → sought_from heads run bound lower at ≡ answer
       → (more : ℕ) × (length run - at ≤ more)
@@ -80,20 +83,17 @@ module _ (run : List ℕ) (bound : Bound) (lower : List ℕ) (at : ℕ) (answer 
   turn_by zero h q = absurd (omega arith)
   turn_by (suc more) h q = (more, omega arith, q)
 
-  without-by : (h : Head) → ((r : Record) → h ≡ head.Record r → ⊥) → (later : ℕ → Sought)
-      → sought_head h run bound lower at later ≡ sought_without h
-  unfolding sought_head
-  without-by head.Nothing other later = refl
-  without-by (head.Record r) other later = absurd (other r refl)
-  without-by (head.Refused why) other later = refl
-
   module _ (rest : Rest run bound lower at answer) where
-    pub ends : (h : Head) → h ≡ head_at run at → ((r : Record) → h ≡ head.Record r → ⊥) → sought_without h ≡ answer
-    ends h e other =
-        let turn = turn_by rest.0 rest.1 rest.2 in
-        sym (without-by h other (λ next. sought_from turn.0 run bound lower next)) ∙ rw e turn.2
+    -- a head that refuses the run, and the run's end
+    pub refused : (h : Head) (why : Refusal) → h ≡ head_at run at → h ≡ Err why → Err why ≡ answer
+    unfolding sought_head
+    refused h why e is = let turn = turn_by rest.0 rest.1 rest.2 in rw (← e, is) at turn.2
 
-    module _ (h : Head) (r : Record) (e : h ≡ head_at run at) (is : h ≡ head.Record r) where
+    pub ended : (h : Head) → h ≡ head_at run at → h ≡ Ok None → Ok None ≡ answer
+    unfolding sought_head
+    ended h e is = let turn = turn_by rest.0 rest.1 rest.2 in rw (← e, is) at turn.2
+
+    module _ (h : Head) (r : Record) (e : h ≡ head_at run at) (is : h ≡ Ok (Some r)) where
       lies : Lies record_header_size run at r
       lies = head-lies run at r (sym e ∙ is)
 
@@ -114,10 +114,10 @@ module _ (run : List ℕ) (bound : Bound) (lower : List ℕ) (at : ℕ) (answer 
         unfolding sought_by
         below l = let m = met Less l in let n = nearer in (m.0, omega arith, m.2)
 
-        pub level : o ≡ Equal → At (level_at bound at r.next) ≡ answer
+        pub level : o ≡ Equal → Ok (Some (level_at bound at r.next)) ≡ answer
         unfolding sought_by
         level l = (met Equal l).2
 
-        pub above : o ≡ Greater → At at ≡ answer
+        pub above : o ≡ Greater → Ok (Some at) ≡ answer
         unfolding sought_by
         above l = (met Greater l).2

@@ -1,10 +1,9 @@
 -- Bounds: none, included, excluded (docs/RULES.md, Runs). The bound's key may have any length. Assumes nothing.
 use Rattle.std.specs.Prelude.{Bool, true, false, List, ℕ}
 use Rattle.keys.specs.Keys.{compare_keys}
-use Rattle.run.specs.declared.bound.Bound.{Bound}
-use Rattle.run.specs.declared.bound.Bound.TheVariants.{Unbounded, Included, Excluded}
-use Rattle.keys.specs.declared.order.Ordering.{Ordering}
-use Rattle.keys.specs.declared.order.Ordering.TheVariants.{Less, Equal, Greater}
+use Rattle.run.specs.Kinds.{Bound, Unbounded, Included, Excluded}
+use Rattle.std.specs.declared.cmp.Ordering.{Ordering}
+use Rattle.std.specs.declared.cmp.Ordering.TheVariants.{Less, Equal, Greater}
 
 -- whether a key that stands so to the upper bound lies past it
 unfoldable pub past_by : Bound → Ordering → Bool

@@ -1,11 +1,10 @@
 -- A run as the list of its items: what it says, without positions. Assumes nothing.
-use Rattle.std.specs.Prelude.{◌≡◌, Bool, cond, List, [], ◌∷◌, ℕ}
+use Rattle.std.specs.Prelude.{◌≡◌, Bool, cond, List, [], ◌∷◌, ℕ, Ok, Some, None}
 use Rattle.keys.specs.Keys.{compare_keys}
 use Rattle.run.specs.Records.{head_at, key_in, value_in}
-use Rattle.keys.specs.declared.order.Ordering.{Ordering}
-use Rattle.keys.specs.declared.order.Ordering.TheVariants.{Less, Equal, Greater}
+use Rattle.std.specs.declared.cmp.Ordering.{Ordering}
+use Rattle.std.specs.declared.cmp.Ordering.TheVariants.{Less, Equal, Greater}
 use Rattle.run.specs.declared.record.Record.{Record}
-use Rattle.run.specs.declared.record.Head.TheVariants as head
 
 -- what a record says: a key, and that it is deleted or what its value is
 pub record Item : Type 0 where
@@ -18,8 +17,8 @@ item_in run r = record { deleted = r.deleted; key = key_in run r; value = value_
 
 -- from a position on a run is read to its end, and has these items
 pub data Reads (run : List ℕ) : ℕ → List Item → Type 0 where
-  end : {at : ℕ} → head_at run at ≡ head.Nothing → Reads run at []
-  more : {at : ℕ} {items : List Item} (r : Record) → head_at run at ≡ head.Record r → Reads run r.next items
+  end : {at : ℕ} → head_at run at ≡ Ok None → Reads run at []
+  more : {at : ℕ} {items : List Item} (r : Record) → head_at run at ≡ Ok (Some r) → Reads run r.next items
       → Reads run at (item_in run r ∷ items)
 
 -- a key is below those of all these items

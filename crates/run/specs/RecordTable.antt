@@ -1,12 +1,10 @@
 -- The reference cases of records (docs/RULES.md, Reference cases), as a table: a run that is one record, and what the record
 -- says; and the kinds and the limits, each with the number that it answers. Assumes nothing.
-use Rattle.std.specs.Prelude.{cond, true, false, List, [], ◌∷◌, ◌++◌, ℕ, ◌+◌, eqb, length, replicate}
+use Rattle.std.specs.Prelude.{cond, true, false, List, [], ◌∷◌, ◌++◌, ℕ, ◌+◌, eqb, length, replicate, Ok, Err, Some, None}
 use Rattle.types.specs.Bytes.{bytes_of}
 use Rattle.run.specs.Answers.{head_told}
 use Rattle.run.specs.Items.{Item, item_in}
-use Rattle.run.specs.Records.{head_at}
-use Rattle.run.specs.declared.record.Head.{Head}
-use Rattle.run.specs.declared.record.Head.TheVariants as head
+use Rattle.run.specs.Records.{head_at, Head}
 
 pub record RecordCase : Type 0 where
   pub bytes : List ℕ
@@ -33,9 +31,9 @@ record_cases = live_a ∷ deleted_a ∷ []
 
 -- the item of a record that is the whole run
 unfoldable pub whole_item : List ℕ → Head → List Item
-whole_item run head.Nothing = []
-whole_item run (head.Record r) = cond (eqb r.next (length run)) (item_in run r ∷ []) []
-whole_item run (head.Refused why) = []
+whole_item run (Ok None) = []
+whole_item run (Ok (Some r)) = cond (eqb r.next (length run)) (item_in run r ∷ []) []
+whole_item run (Err why) = []
 
 -- what the record does say
 unfoldable pub record_outcome : RecordCase → List Item

@@ -1,31 +1,20 @@
-// Bounds of a merge (docs/RULES.md, Runs). The bound's key is lent beside it, and may have any length.
+// Bounds of a merge (docs/RULES.md, Runs): std's, which lend the key. It may have any length.
 ghost use Rattle.std.specs.Prelude.{◌≡◌};
+ghost use Rattle.std.specs.Range.Bound.{bound_map};
 ghost use Rattle.run.specs.Bounds.{is_past};
+ghost use Rattle.run.specs.Kinds.{kind_of, key_of};
 
-use keys::order::{Ordering, compare};
-
-#[derive(Clone, Copy)]
-pub enum Bound {
-    Unbounded,
-    Included,
-    Excluded,
-}
+use keys::order::compare;
+use std::ops::Bound;
 
 // Whether a key lies past an upper bound.
-pub fn is_past(key: &[u8], bound: Bound, upper: &[u8]) -> bool
-    ensures answers { result ≡ is_past bound upper.now key.now }
+#[tactic(auto, unfolding(crate::specs::Bounds::past_by))]
+pub fn is_past(key: &[u8], upper: Bound<&[u8]>) -> bool
+    ensures answers { result ≡ is_past (kind_of upper.entry) (key_of (bound_map (λ x. x.now) upper.entry)) key.now }
 {
-    match bound {
+    match upper {
         Bound::Unbounded => false,
-        Bound::Included => match compare(key, upper) {
-            Ordering::Less => false,
-            Ordering::Equal => false,
-            Ordering::Greater => true,
-        },
-        Bound::Excluded => match compare(key, upper) {
-            Ordering::Less => false,
-            Ordering::Equal => true,
-            Ordering::Greater => true,
-        },
+        Bound::Included(upper) => compare(key, upper).is_gt(),
+        Bound::Excluded(upper) => compare(key, upper).is_ge(),
     }
 }

@@ -1,30 +1,28 @@
 -- The turns of the searches in a line. Assumes nothing.
-use mathlib.Core.Path.{◌≡◌, sym, ap, ◌∙◌}
+use Rattle.std.specs.Prelude.{Option, Some, None, position}
+use Rattle.std.specs.Option.{unwrap_or}
+use Rattle.std.proofs.lemmas.List.Sums.{prefix_len-le-length}
+use mathlib.Core.Bool.{Bool, true, false, cond, not}
+use lib.Dec.{eqb, ltb}
+use mathlib.Core.Path.{◌≡◌, refl, sym, ap, ◌∙◌}
 use mathlib.Core.List.{List}
 use mathlib.Core.Logic.{⊎_elim}
 use Prim.Native.Nat.{ℕ, suc, ◌+◌, ◌-◌, ◌≤◌, ◌<◌, min}
-use native.Mathlib.Nat.{add-zero, add-suc, suc-add}
-use native.Mathlib.Numerals.{add-one}
 use native.Mathlib.Omega.{arith}
-use lib.ListN.{length, take, drop, get_or, drop_of_length-le}
-use lib.Seq.{drop-cons, drop-drop}
-use borrow.Author.Tests.{eq-eqb, ne_eqb}
+use lib.ListN.{length, take, drop, drop_of_length-le}
+use lib.Seq.{drop-drop}
+use borrow.Author.Tests.{ltb-false}
 use Rattle.types.proofs.TestLaws.{le-or-lt}
-use Rattle.script.specs.Words.{before, end_from, space, nth_word, word_count}
+use Rattle.script.specs.Words.{before, end_from, space, nth_word}
 
--- ---- the end of a word or a line
+-- ---- the first such byte
 
-pub end-found : (text : List ℕ) (i byte : ℕ) → i < length text → get_or text i 0 ≡ byte → i ≡ end_from text i byte
-unfolding before
-end-found text i byte h e = rw (drop-cons text i 0 h) (rw (eq-eqb (get_or text i 0) byte e, add-zero))
+by-test : (t : Bool) (n k : ℕ) → n ≤ k → t ≡ ltb n k → unwrap_or (cond t (Some n) None) k ≡ n
+by-test true n k h e = refl
+by-test false n k h e = let g : k ≤ n = ltb-false n k (sym e) in omega arith
 
-pub end-turn : (text : List ℕ) (i byte : ℕ) → i < length text → (get_or text i 0 ≡ byte → ⊥) → end_from text (i + 1) byte ≡ end_from text i byte
-unfolding before
-end-turn text i byte h n = rw (add-one, drop-cons text i 0 h) (rw (ne_eqb (get_or text i 0) byte n, suc-add, add-suc))
-
-pub end-past : (text : List ℕ) (i byte : ℕ) → length text ≤ i → i ≡ end_from text i byte
-unfolding before
-end-past text i byte h = rw (drop_of_length-le text h, add-zero)
+pub before-found : (byte : ℕ) (text : List ℕ) (r : Option ℕ) → r ≡ position (λ b. eqb b byte) text → unwrap_or r (length text) ≡ before byte text
+before-found byte text r e = rw e (by-test (ltb (before byte text) (length text)) (before byte text) (length text) (prefix_len-le-length (λ b. not (eqb b byte)) text) refl)
 
 -- ---- the k-th word
 
@@ -49,18 +47,3 @@ word-found line at k i h =
     let z : k - i ≡ 0 = omega arith in
     let b : end_from line at space - at ≡ before space (drop at line) = omega arith in
     rw (z, b)
-
--- ---- counting words
-
-module _ (line : List ℕ) (i n : ℕ) (h : i < length line) where
-  pub count-space : get_or line i 0 ≡ space → n + 1 + word_count (drop (i + 1) line) ≡ n + word_count (drop i line)
-  unfolding word_count
-  count-space e = rw (add-one i, drop-cons line i 0 h) (rw (eq-eqb (get_or line i 0) space e, add-one, suc-add, add-suc))
-
-  pub count-other : (get_or line i 0 ≡ space → ⊥) → n + word_count (drop (i + 1) line) ≡ n + word_count (drop i line)
-  unfolding word_count
-  count-other e = rw (add-one i, drop-cons line i 0 h) (rw (ne_eqb (get_or line i 0) space e))
-
-pub count-done : (line : List ℕ) (i n : ℕ) → length line ≤ i → n + word_count (drop i line) ≡ 1 + word_count line → n ≡ word_count line
-unfolding word_count
-count-done line i n h e = let z : n + 1 ≡ 1 + word_count line = rw (drop_of_length-le line h) at e in omega arith

@@ -1,3 +1,2 @@
 pub mod Args
-pub mod Spaces
 pub mod Words

@@ -1,31 +1,25 @@
 // Lines and words: a line ends at a newline, a word at a space.
-ghost use Rattle.std.specs.Prelude.{◌≡◌, ◌↔◌, IsTrue};
+ghost use Rattle.std.specs.Prelude.{◌≡◌, ◌==◌, ◌↔◌, IsTrue, position};
 ghost use Rattle.script.specs.Words.{end_from, nth_word, word_count};
 
 use slices::part::part_of;
-use types::num::{min, minus};
+use std::cmp::Ord;
 
 const SPACE: u8 = b' ';
 
-// Whether two words are the same bytes.
-pub fn same(a: &[u8], b: &[u8]) -> bool
-    ensures equal { IsTrue result ↔ (a.now ≡ b.now) }
+// The index of the first such byte.
+fn place_of(text: &[u8], byte: u8) -> Option<usize>
+    ensures answers { result ≡ position (λ b. b == byte) text.now }
 {
-    a == b
+    text.iter().position(|b| *b == byte)
 }
 
 // The index of the first such byte at or after an index. Where there is none: the text's end, or the index if that is past it.
 pub fn end_from(text: &[u8], from: usize, byte: u8) -> usize
     ensures answers { result ≡ end_from text.now from byte }
 {
-    let mut i = from;
-    while i < text.len() {
-        if text[i] == byte {
-            return i;
-        }
-        i += 1;
-    }
-    i
+    let rest = part_of(text, from, text.len());
+    from + place_of(rest, byte).unwrap_or(rest.len())
 }
 
 // The k-th word of a line, counted from 0, and nothing past the last.
@@ -34,20 +28,14 @@ pub fn nth_word(line: &[u8], k: usize) -> &[u8]
 {
     let mut at = 0;
     for _ in 0..k {
-        at = min(end_from(line, at, SPACE), line.len()) + 1;
+        at = end_from(line, at, SPACE).min(line.len()) + 1;
     }
-    part_of(line, at, minus(end_from(line, at, SPACE), at))
+    part_of(line, at, end_from(line, at, SPACE).saturating_sub(at))
 }
 
 // How many words a line has: one more than it has spaces.
 pub fn word_count(line: &[u8]) -> usize
     ensures answers { result ≡ word_count line.now }
 {
-    let mut count = 1;
-    for i in 0..line.len() {
-        if line[i] == SPACE {
-            count += 1;
-        }
-    }
-    count
+    1 + line.iter().filter(|b| **b == SPACE).count()
 }

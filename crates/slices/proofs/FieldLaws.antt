@@ -5,19 +5,13 @@ use Prim.Native.Nat.{ℕ, zero, suc, ◌+◌, ◌*◌, ◌^◌, ◌≤◌, ◌<�
 use native.Mathlib.Nat.{add-zero}
 use native.Mathlib.Numerals.{add-one}
 use native.Mathlib.Omega.{arith}
-use lib.ListN.{length, take, drop, get_or, length-drop, get_or-eq_default}
+use lib.ListN.{length, take, drop, get_or}
 use lib.Seq.{drop-drop, get_or-drop}
 use Rattle.types.specs.Bytes.{word, bytes_of}
 use Rattle.types.proofs.BytesLaws.{length-bytes_of, word-bytes_of}
 use Rattle.slices.specs.Fields.{field}
 use Rattle.slices.specs.Patch.{patch}
 use Rattle.slices.proofs.PatchLaws.{part-patch}
-
--- past the end there is nothing
-pub past_end : (at k : ℕ) (xs : List ℕ) → length xs ≤ at + k → 0 ≡ get_or (drop at xs) k 0
-past_end at k xs h =
-    let short : length (drop at xs) ≤ k = simp length-drop (omega arith) in
-    sym (get_or-eq_default (drop at xs) 0 short)
 
 -- k elements from index i on, each by itself
 unfoldable pub elements : ℕ → ℕ → List ℕ → List ℕ
@@ -40,6 +34,16 @@ word-elements (suc k) i xs =
     let first : get_or xs i 0 ≡ get_or (drop i xs) 0 0 = sym (get_or-drop i xs 0 0 ∙ ap (λ (n : ℕ). get_or xs n 0) (add-zero i)) in
     ap₂ (λ (w b : ℕ). w * 256 + b) (word-elements k (suc i) xs ∙ ap (λ (l : List ℕ). word (take k l)) rest) first
     ∙ sym (word-take k (drop i xs))
+
+-- a field of four bytes, byte by byte
+pub word-four : (i : ℕ) (xs : List ℕ)
+    → get_or xs i 0 + get_or xs (i + 1) 0 * 0x100 + get_or xs (i + 2) 0 * 0x1_0000 + get_or xs (i + 3) 0 * 0x100_0000 ≡ word (take 4 (drop i xs))
+unfolding word elements
+word-four i xs =
+    let second : get_or xs (i + 1) 0 ≡ get_or xs (suc i) 0 = ap (λ (n : ℕ). get_or xs n 0) (omega arith) in
+    let third : get_or xs (i + 2) 0 ≡ get_or xs (suc (suc i)) 0 = ap (λ (n : ℕ). get_or xs n 0) (omega arith) in
+    let fourth : get_or xs (i + 3) 0 ≡ get_or xs (suc (suc (suc i))) 0 = ap (λ (n : ℕ). get_or xs n 0) (omega arith) in
+    omega (arith, second, third, fourth, word-elements 4 i xs)
 
 -- what is put is got
 pub field_put : (k n at : ℕ) (xs : List ℕ) → n < 256 ^ k → at + k ≤ length xs → field k (patch at (bytes_of k n) xs) at ≡ n

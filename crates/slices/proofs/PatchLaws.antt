@@ -1,13 +1,13 @@
 -- The laws of `patch`: the length stays, and each byte is the new one or the old one. Assumes nothing.
 use mathlib.Core.Path.{◌≡◌, refl, sym, ap, ◌∙◌}
-use mathlib.Core.List.{List, [], ◌∷◌, ◌++◌, append-nil}
+use mathlib.Core.List.{List, [], ◌∷◌, ◌++◌}
 use mathlib.Core.Logic.{⊎_elim}
 use Prim.Native.Nat.{ℕ, zero, suc, ◌+◌, ◌-◌, ◌≤◌, ◌<◌, min}
 use native.Mathlib.Nat.{zero-add, suc-add, suc-sub-suc, sub-zero, le_of_suc-le-suc, not-suc-le-zero}
 use native.Mathlib.Numerals.{add-one}
 use native.Mathlib.Omega.{arith}
-use lib.ListN.{length, take, drop, get_or, set, replicate, length-replicate, get_or-replicate, replicate-append-replicate}
-use lib.Seq.{take-nil, take_all, drop-length, drop-cons, set_at, append_snoc}
+use lib.ListN.{length, take, drop, get_or, set, length-replicate, get_or-replicate}
+use lib.Seq.{take-nil, take_all}
 use Rattle.types.proofs.TestLaws.{le-or-lt}
 use Rattle.slices.specs.Patch.{over, patch, blank}
 
@@ -220,7 +220,7 @@ pub get_or-blank : (e n i d : ℕ) → i < n → get_or (blank e n) i d ≡ e
 unfolding blank
 get_or-blank e n i d h = get_or-replicate n i e d h
 
--- ---- for the loops of a store and an erase
+-- ---- for loops that put byte after byte
 
 pub put-start : (bytes xs : List ℕ) → xs ≡ over (take 0 bytes) xs
 unfolding over
@@ -239,16 +239,3 @@ put-turn bytes xs i h k = rw add-one (turn bytes xs i h k)
 pub put-end : (bytes xs : List ℕ) (i : ℕ) → i ≡ min (length bytes) (length xs) → over (take i bytes) xs ≡ over bytes xs
 put-end bytes xs i e =
     ⊎_elim (λ h. ap (λ (l : List ℕ). over l xs) (take_all i bytes (omega arith))) (λ h. over-fit i bytes xs (omega arith)) (le-or-lt (length bytes) (length xs))
-
-pub wipe-start : (e : ℕ) (xs : List ℕ) → xs ≡ blank e 0 ++ drop 0 xs
-unfolding blank
-wipe-start e xs = refl
-
-pub wipe-turn : (e : ℕ) (xs : List ℕ) (i : ℕ) → i < length xs → set (blank e i ++ drop i xs) i e ≡ blank e (i + 1) ++ drop (i + 1) xs
-unfolding blank
-wipe-turn e xs i h =
-    rw (drop-cons xs i 0, set_at (replicate i e) (get_or xs i 0) (drop (suc i) xs) e i (length-replicate i e), add-one)
-    (sym (append_snoc (replicate i e) e (drop (suc i) xs)) ∙ rw (replicate-append-replicate {A = ℕ} i 1 e, add-one))
-
-pub wipe-end : (e : ℕ) (xs : List ℕ) (i : ℕ) → i ≡ length xs → blank e i ++ drop i xs ≡ blank e (length xs)
-wipe-end e xs i h = rw (h, drop-length, append-nil)

@@ -7,31 +7,25 @@ ghost use Rattle.slices.specs.Fields.{field};
 fn byte(bytes: &[u8], at: usize, k: usize) -> u8
     ensures answers { result ≡ get_or (drop at bytes.now) k 0 }
 {
-    if at <= bytes.len() {
-        if k < bytes.len() - at {
-            return bytes[at + k];
-        }
-    }
-    0
-}
-
-fn join16(a: u8, b: u8) -> u16
-    ensures answers { result ≡ word (a ∷ b ∷ []) }
-{
-    (b as u16) * 256 + (a as u16)
+    bytes
+        .get(at..)
+        .and_then(|rest| rest.get(k))
+        .copied()
+        .unwrap_or(0)
 }
 
 // Four bytes as one number, which a machine reads at once.
+#[tactic(auto, unfolding(types::specs::Bytes::word))]
 pub fn join32(a: u8, b: u8, c: u8, d: u8) -> u32
     ensures answers { result ≡ word (a ∷ b ∷ c ∷ d ∷ []) }
 {
-    (a as u32) + (b as u32) * 0x100 + (c as u32) * 0x10000 + (d as u32) * 0x1000000
+    u32::from_le_bytes([a, b, c, d])
 }
 
 pub fn get16(bytes: &[u8], at: usize) -> u16
     ensures answers { result ≡ field 2 bytes.now at }
 {
-    join16(byte(bytes, at, 0), byte(bytes, at, 1))
+    u16::from_le_bytes([byte(bytes, at, 0), byte(bytes, at, 1)])
 }
 
 pub fn get32(bytes: &[u8], at: usize) -> u32
@@ -45,21 +39,16 @@ pub fn get32(bytes: &[u8], at: usize) -> u32
     )
 }
 
+#[tactic(auto, unfolding(types::specs::Bytes::bytes_of))]
 pub fn put16(n: u16) -> [u8; 2]
     ensures answers { result ≡ bytes_of 2 n }
 {
-    let low = (n % 256) as u8;
-    let high = (n / 256 % 256) as u8;
-    [low, high]
+    u16::to_le_bytes(n)
 }
 
+#[tactic(auto, unfolding(types::specs::Bytes::bytes_of))]
 pub fn put32(n: u32) -> [u8; 4]
     ensures answers { result ≡ bytes_of 4 n }
 {
-    [
-        (n % 256) as u8,
-        (n / 256 % 256) as u8,
-        (n / 256 / 256 % 256) as u8,
-        (n / 256 / 256 / 256 % 256) as u8,
-    ]
+    u32::to_le_bytes(n)
 }

@@ -1,3 +1,4 @@
+pub mod AnswerLaws
 pub mod BuildLaws
 pub mod BytesLaws
 pub mod CheckLaws

@@ -5,7 +5,7 @@ use Prim.Native.Nat.{ℕ}
 use borrow.Author.Tests.{eq-eqb, ne_eqb}
 use Rattle.types.specs.PageIDs.{no_page, page_of_raw, raw_of}
 use Rattle.types.specs.declared.page_id.PageID.{PageID}
-use Rattle.types.specs.declared.page_id.MaybePageID.TheVariants.{None, Some}
+use Rattle.std.specs.declared.option.Option.TheVariants.{None, Some}
 use Rattle.types.proofs.TestLaws.{eq-or-ne}
 
 pub raw-back : (raw : ℕ) → raw_of (page_of_raw raw) ≡ raw

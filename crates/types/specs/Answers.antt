@@ -1,16 +1,12 @@
 -- An answer as numbers (docs/RULES.md, Refusals): the number of the row that refuses, 0 where none does, and the values; and so
 -- the answers that several crates share. Assumes nothing.
-use Rattle.std.specs.Prelude.{List, [], ◌∷◌, map, ℕ, ℤ, pos, negsuc, get_or}
+use Rattle.std.specs.Prelude.{List, [], ◌∷◌, map, ℕ, ℤ, pos, negsuc, get_or, Ok, Err, ⊤}
+use Rattle.std.specs.declared.option.Option.{Option}
+use Rattle.std.specs.declared.option.Option.TheVariants.{None, Some}
+use Rattle.std.specs.declared.result.Result.{Result}
 use Rattle.types.specs.Refusals.{number_of}
-use Rattle.types.specs.declared.answers.Outcome.{Outcome}
-use Rattle.types.specs.declared.answers.Outcome.TheVariants as outcome
-use Rattle.types.specs.declared.answers.PageOf.{PageOf}
-use Rattle.types.specs.declared.answers.PageOf.TheVariants as of
-use Rattle.types.specs.declared.page_id.MaybePageID.{MaybePageID}
-use Rattle.types.specs.declared.page_id.MaybePageID.TheVariants as maybe
+use Rattle.types.specs.declared.page_id.PageID.{PageID}
 use Rattle.types.specs.declared.refusal.Refusal.{Refusal}
-use Rattle.types.specs.declared.refusal.Verdict.{Verdict}
-use Rattle.types.specs.declared.refusal.Verdict.TheVariants as verdict
 
 -- a value may be below zero
 pub record Told : Type 0 where
@@ -24,6 +20,17 @@ answered vs = record { number = 0; values = map pos vs }
 -- refused
 abbrev pub refusal : Refusal → Told
 refusal why = record { number = number_of why; values = [] }
+
+module _ {A : Type 0} where
+  -- answered as told_as says, or refused
+  abbrev pub told_by : (A → Told) → Result A Refusal → Told
+  told_by told_as (Ok a) = told_as a
+  told_by told_as (Err why) = refusal why
+
+  -- the number of the row that refuses, 0 where none does
+  abbrev pub number_told : Result A Refusal → ℕ
+  number_told (Ok a) = 0
+  number_told (Err why) = number_of why
 
 -- the k-th value, or another where there is none
 abbrev pub value_or : ℤ → ℕ → Told → ℤ
@@ -40,20 +47,19 @@ size_or other k told = size_of (value_or (pos other) k told)
 
 -- ---- the answers that several crates share
 
-abbrev pub outcome_told : Outcome → Told
-outcome_told outcome.Done = answered []
-outcome_told (outcome.Refused why) = refusal why
+-- nothing to tell
+abbrev pub outcome_told : Result ⊤ Refusal → Told
+outcome_told = told_by (λ done. answered [])
 
-abbrev pub verdict_told : Verdict → Told
-verdict_told verdict.Fine = answered []
-verdict_told (verdict.Refused why) = refusal why
+-- how many
+abbrev pub size_told : Result ℕ Refusal → Told
+size_told = told_by (λ n. answered (n ∷ []))
 
 -- a page's number
-abbrev pub page_of_told : PageOf → Told
-page_of_told (of.Page page) = answered (page.0 ∷ [])
-page_of_told (of.Refused why) = refusal why
+abbrev pub page_of_told : Result PageID Refusal → Told
+page_of_told = told_by (λ page. answered (page.0 ∷ []))
 
 -- a page's number, or no value
-abbrev pub maybe_told : MaybePageID → Told
-maybe_told maybe.None = answered []
-maybe_told (maybe.Some page) = answered (page.0 ∷ [])
+abbrev pub maybe_told : Option PageID → Told
+maybe_told None = answered []
+maybe_told (Some page) = answered (page.0 ∷ [])

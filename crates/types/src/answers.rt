@@ -1,53 +1,26 @@
-// The answers that calls of several crates share. Each answer type hands out the number of the row that refuses, 0 where
-// none does, and its values, where it has any.
-ghost use Rattle.std.specs.Prelude.{◌≡◌};
-ghost use Rattle.types.specs.Answers.{size_or, outcome_told, page_of_told};
+// What calls answer. A refused call answers an Err with its Refusal; one that is not hands out its values as Ok.
+ghost use Rattle.std.specs.Prelude.{◌≡◌, ℕ};
 
-use crate::page_id::PageID;
 use crate::refusal::Refusal;
 
-// The answer of a call that has nothing to tell.
-#[derive(Clone, Copy)]
-pub enum Outcome {
-    Done,
-    Refused(Refusal),
+// What a call answers, as the one number that tells whether it was refused.
+pub trait Answer {
+    ghost number: { Self → ℕ };
+
+    // The number of the row that refuses, 0 where none does.
+    fn number(self) -> u8
+        ensures answers { result ≡ number self };
 }
 
-impl Outcome {
-    pub fn number(self) -> u8
-        ensures answers { result ≡ (outcome_told self).number }
-    {
-        match self {
-            Outcome::Done => 0,
-            Outcome::Refused(why) => why.number(),
-        }
-    }
-}
+impl<T: Drop> Answer for Result<T, Refusal> {
+    ghost use Rattle.types.specs.Answers.{number_told};
 
-// The answer of a call that asks for a page: its number.
-#[derive(Clone, Copy)]
-pub enum PageOf {
-    Page(PageID),
-    Refused(Refusal),
-}
+    ghost number = { number_told };
 
-impl PageOf {
-    pub fn number(self) -> u8
-        ensures answers { result ≡ (page_of_told self).number }
-    {
+    fn number(self) -> u8 {
         match self {
-            PageOf::Page(_) => 0,
-            PageOf::Refused(why) => why.number(),
-        }
-    }
-
-    // The page, or another one where the call was refused.
-    pub fn page_or(self, other: PageID) -> PageID
-        ensures answers { result.0 ≡ size_or other.0 0 (page_of_told self) }
-    {
-        match self {
-            PageOf::Page(page) => page,
-            PageOf::Refused(_) => other,
+            Ok(_) => 0,
+            Err(why) => why.number(),
         }
     }
 }

@@ -4,6 +4,5 @@
 
 pub mod answers;
 pub mod config;
-pub mod num;
 pub mod page_id;
 pub mod refusal;

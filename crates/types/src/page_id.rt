@@ -1,46 +1,16 @@
 // Page numbers (types/mod.rs). Raw 0xFFFF is none.
 ghost use Rattle.std.specs.Prelude.{◌≡◌, not};
-ghost use Rattle.types.specs.Answers.{size_or, maybe_told};
-ghost use Rattle.types.specs.PageIDs.{no_page, page_of_raw, raw_of, is_none};
+ghost use Rattle.types.specs.PageIDs.{no_page, page_of_raw, is_none};
 
 const NO_PAGE: u16 = 0xFFFF;
 
 // A page number, which is no offset and no run number.
-#[derive(Clone, Copy)]
+#[derive(Clone, Copy, PartialEq, Eq)]
 pub struct PageID(pub u16);
 
 // A page number or none, in 16 bits, as it is written to flash.
-#[derive(Clone, Copy)]
+#[derive(Clone, Copy, PartialEq, Eq)]
 pub struct OptionPageID(pub u16);
-
-// The same with its two cases apart: the original's Option<PageID>.
-#[derive(Clone, Copy)]
-pub enum MaybePageID {
-    None,
-    Some(PageID),
-}
-
-impl MaybePageID {
-    // 0: neither case is a refusal.
-    pub fn number(self) -> u8
-        ensures answers { result ≡ (maybe_told self).number }
-    {
-        match self {
-            MaybePageID::None => 0,
-            MaybePageID::Some(_) => 0,
-        }
-    }
-
-    // The page, or another one where there is none.
-    pub fn page_or(self, other: PageID) -> PageID
-        ensures answers { result.0 ≡ size_or other.0 0 (maybe_told self) }
-    {
-        match self {
-            MaybePageID::None => other,
-            MaybePageID::Some(page) => page,
-        }
-    }
-}
 
 impl PageID {
     pub fn zero() -> PageID
@@ -50,13 +20,13 @@ impl PageID {
     }
 
     // None where raw is 0xFFFF.
-    pub fn from_raw(raw: u16) -> MaybePageID
+    pub fn from_raw(raw: u16) -> Option<PageID>
         ensures answers { result ≡ page_of_raw raw }
     {
         if raw == NO_PAGE {
-            MaybePageID::None
+            None
         } else {
-            MaybePageID::Some(PageID(raw))
+            Some(PageID(raw))
         }
     }
 
@@ -93,21 +63,6 @@ impl OptionPageID {
         self.0
     }
 
-    pub fn from_option(page: MaybePageID) -> OptionPageID
-        ensures answers { result.0 ≡ raw_of page }
-    {
-        match page {
-            MaybePageID::None => OptionPageID(NO_PAGE),
-            MaybePageID::Some(p) => OptionPageID(p.0),
-        }
-    }
-
-    pub fn into_option(self) -> MaybePageID
-        ensures answers { result ≡ page_of_raw self.0 }
-    {
-        PageID::from_raw(self.0)
-    }
-
     pub fn is_some(self) -> bool
         ensures answers { result ≡ not (is_none self.0) }
     {
@@ -118,5 +73,30 @@ impl OptionPageID {
         ensures answers { result ≡ is_none self.0 }
     {
         self.0 == NO_PAGE
+    }
+}
+
+impl From<Option<PageID>> for OptionPageID {
+    ghost use Rattle.std.specs.Prelude.{◌≡◌};
+    ghost use Rattle.types.specs.PageIDs.{raw_of};
+
+    ghost from_gives = { λ page written. written.0 ≡ raw_of page };
+
+    fn from(page: Option<PageID>) -> OptionPageID {
+        match page {
+            None => OptionPageID::none(),
+            Some(page) => OptionPageID::some(page),
+        }
+    }
+}
+
+impl From<OptionPageID> for Option<PageID> {
+    ghost use Rattle.std.specs.Prelude.{◌≡◌};
+    ghost use Rattle.types.specs.PageIDs.{page_of_raw};
+
+    ghost from_gives = { λ written page. page ≡ page_of_raw written.0 };
+
+    fn from(written: OptionPageID) -> Option<PageID> {
+        PageID::from_raw(written.0)
     }
 }

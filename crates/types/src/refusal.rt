@@ -1,9 +1,11 @@
 // Why a call is refused: the table of docs/RULES.md, Refusals, row for row.
 ghost use Rattle.std.specs.Prelude.{◌≡◌};
-ghost use Rattle.types.specs.Answers.{verdict_told};
 ghost use Rattle.types.specs.Refusals.{number_of};
 
-#[derive(Clone, Copy)]
+use std::error::Error;
+use std::fmt;
+
+#[derive(Clone, Copy, Debug, PartialEq, Eq)]
 pub enum Refusal {
     // A check of lent bytes failed.
     Corrupted,
@@ -29,13 +31,6 @@ pub enum Refusal {
     BadState,
 }
 
-// What the checks before the work come to.
-#[derive(Clone, Copy)]
-pub enum Verdict {
-    Fine,
-    Refused(Refusal),
-}
-
 impl Refusal {
     // The number in the table.
     pub fn number(self) -> u8
@@ -57,13 +52,26 @@ impl Refusal {
     }
 }
 
-impl Verdict {
-    pub fn number(self) -> u8
-        ensures answers { result ≡ (verdict_told self).number }
-    {
-        match self {
-            Verdict::Fine => 0,
-            Verdict::Refused(why) => why.number(),
-        }
+// The refusal of what can be refused for one reason alone: a check of lent bytes failed.
+#[derive(Clone, Copy, Debug, PartialEq, Eq)]
+pub struct Corrupted;
+
+impl From<Corrupted> for Refusal {
+    ghost use Rattle.std.specs.Prelude.{◌≡◌};
+    ghost use Rattle.types.specs.declared.refusal.Refusal.TheVariants as row;
+
+    ghost from_gives = { λ _ why. why ≡ row.Corrupted };
+
+    fn from(_: Corrupted) -> Refusal {
+        Self::Corrupted
     }
 }
+
+// What is wrong, as the programs for people say it: the name and the number in the table.
+impl fmt::Display for Refusal {
+    fn fmt<W: fmt::Write>(&self, f: &mut fmt::Formatter<W>) -> fmt::Result {
+        write!(f, "{:?} ({})", *self, self.number())
+    }
+}
+
+impl Error for Refusal {}

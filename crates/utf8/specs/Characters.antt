@@ -1,6 +1,8 @@
 -- Characters in UTF-8: the first byte says how many bytes there are, and each byte behind it starts with the bits 10 and has six bits of the
 -- character. Well-formed are characters in their shortest form, up to U+10FFFF, without the surrogates. Assumes nothing.
 use Rattle.std.specs.Prelude.{Bool, cond, not, ◌&&◌, List, ℕ, ◌+◌, ◌*◌, ◌/◌, ◌%◌, eqb, leb, get_or}
+use Rattle.std.specs.declared.option.Option.{Option}
+use Rattle.std.specs.declared.option.Option.TheVariants.{None, Some}
 
 -- whether a byte goes on with a character
 abbrev pub goes_on : ℕ → Bool
@@ -23,10 +25,10 @@ abbrev pub four_fine : ℕ → ℕ → ℕ → ℕ → Bool
 four_fine a b c d =
     eqb (a / 8) 30 && goes_on b && goes_on c && goes_on d && leb 65536 (with_bits (with_bits (with_bits (a % 8) b) c) d) && leb (with_bits (with_bits (with_bits (a % 8) b) c) d) 1114111
 
--- how many bytes the character has that four bytes start with, and 0 where they start with none
-abbrev pub length_in : ℕ → ℕ → ℕ → ℕ → ℕ
-length_in a b c d = cond (two_fine a b) 2 (cond (three_fine a b c) 3 (cond (four_fine a b c d) 4 0))
+-- how many bytes the character has that four bytes start with, if they start with one
+abbrev pub length_in : ℕ → ℕ → ℕ → ℕ → Option ℕ
+length_in a b c d = cond (two_fine a b) (Some 2) (cond (three_fine a b c) (Some 3) (cond (four_fine a b c d) (Some 4) None))
 
 -- the same of bytes; past the last one stands 0, which does not go on with a character
-abbrev pub character_length : List ℕ → ℕ
+abbrev pub character_length : List ℕ → Option ℕ
 character_length s = length_in (get_or s 0 0) (get_or s 1 0) (get_or s 2 0) (get_or s 3 0)

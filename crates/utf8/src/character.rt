@@ -6,24 +6,21 @@ ghost use Rattle.utf8.specs.Characters.{two_fine, three_fine, four_fine, length_
 fn byte_at(bytes: &[u8], i: usize) -> u8
     ensures answers { result ≡ get_or bytes.now i 0 }
 {
-    if i < bytes.len() {
-        return bytes[i];
-    }
-    0
+    bytes.get(i).copied().unwrap_or(0)
 }
 
 fn two_fine(a: u8, b: u8) -> bool
     ensures answers { result ≡ two_fine a b }
 {
     let n = (a as u32) % 32 * 64 + (b as u32) % 64;
-    (a / 32 == 6) & (b / 64 == 2) & (160 <= n)
+    a / 32 == 6 && b / 64 == 2 && 160 <= n
 }
 
 fn three_fine(a: u8, b: u8, c: u8) -> bool
     ensures answers { result ≡ three_fine a b c }
 {
     let n = ((a as u32) % 16 * 64 + (b as u32) % 64) * 64 + (c as u32) % 64;
-    (a / 16 == 14) & (b / 64 == 2) & (c / 64 == 2) & (2048 <= n) & (n / 2048 != 27)
+    a / 16 == 14 && b / 64 == 2 && c / 64 == 2 && 2048 <= n && n / 2048 != 27
 }
 
 fn four_fine(a: u8, b: u8, c: u8, d: u8) -> bool
@@ -31,26 +28,25 @@ fn four_fine(a: u8, b: u8, c: u8, d: u8) -> bool
 {
     let m = ((a as u32) % 8 * 64 + (b as u32) % 64) * 64 + (c as u32) % 64;
     let n = m * 64 + (d as u32) % 64;
-    (a / 8 == 30) & (b / 64 == 2) & (c / 64 == 2) & (d / 64 == 2) & (65536 <= n) & (n <= 1114111)
+    a / 8 == 30 && b / 64 == 2 && c / 64 == 2 && d / 64 == 2 && 65536 <= n && n <= 1114111
 }
 
-fn length_in(a: u8, b: u8, c: u8, d: u8) -> usize
+fn length_in(a: u8, b: u8, c: u8, d: u8) -> Option<usize>
     ensures answers { result ≡ length_in a b c d }
 {
     if two_fine(a, b) {
-        return 2;
+        Some(2)
+    } else if three_fine(a, b, c) {
+        Some(3)
+    } else if four_fine(a, b, c, d) {
+        Some(4)
+    } else {
+        None
     }
-    if three_fine(a, b, c) {
-        return 3;
-    }
-    if four_fine(a, b, c, d) {
-        return 4;
-    }
-    0
 }
 
-// How many bytes the character has that stands at the start, and 0 where none does.
-pub fn character_length(bytes: &[u8]) -> usize
+// How many bytes the character has that stands at the start, if one does.
+pub fn character_length(bytes: &[u8]) -> Option<usize>
     ensures answers { result ≡ character_length bytes.now }
 {
     length_in(

@@ -1,19 +1,19 @@
 -- The range of a writer, and what a call knows that has passed its checks. Assumes nothing.
+use Rattle.std.specs.Prelude.{Ok}
 use mathlib.Core.Path.{◌≡◌}
-use mathlib.Core.Bool.{true, false, ◌&&◌}
+use mathlib.Core.Bool.{true, ◌&&◌}
 use Prim.Native.Nat.{ℕ, ◌+◌, ◌-◌, ◌%◌, ◌≤◌, ◌<◌, min}
 use native.Mathlib.Omega.{arith}
-use lib.Dec.{eqb, leb, ltb}
+use lib.Dec.{eqb}
 use borrow.Author.Tests.{eqb-true, leb-true, ltb-true, eq-eqb, le-leb, lt-ltb}
 use Rattle.types.specs.Build.{page_size, align, max_page_count, max_header_size, chunk_header_size, max_chunk_size}
 use Rattle.types.specs.declared.refusal.Refusal.TheVariants.{OutOfRange, BadFlash, BadHeader, BadState}
-use Rattle.types.specs.declared.refusal.Verdict.TheVariants.{Fine}
 use Rattle.types.proofs.CheckLaws.{asking-fine}
-use Rattle.types.proofs.TestLaws.{both_true, leb-iff}
+use Rattle.types.proofs.TestLaws.{both_true}
 use Rattle.flash.specs.Geometry.{flash_fine, has_page}
 use Rattle.page.specs.Headers.{header_fine}
 use Rattle.page.proofs.CheckLaws.{Inside, header-facts, inside}
-use Rattle.writer.specs.States.{first_chunk, most_pending, in_range}
+use Rattle.writer.specs.States.{first_chunk, most_pending, Small, in_range}
 use Rattle.writer.specs.Checks.{writer_check, heading_check}
 use Rattle.writer.specs.declared.page_writer.PageWriter.{PageWriter}
 
@@ -55,6 +55,9 @@ range-in w s =
 pub small : (w : PageWriter) → InRange w → w.pending ≤ max_chunk_size
 small w s = omega (arith, s.room)
 
+pub range-small : (w : PageWriter) → InRange w → Small w
+range-small w s = record { within = s.within; short = small w s }
+
 pub total-small : (w : PageWriter) → InRange w → w.total ≤ page_size
 total-small w s = total_of w.h w.offset w.pending w.total s.after s.within s.room s.old
   where
@@ -67,7 +70,7 @@ pub record WriterChecked (n : ℕ) (w : PageWriter) : Type 0 where
   pub flash : Inside n w.page.0
   pub range : InRange w
 
-pub writer-checked : (n : ℕ) (w : PageWriter) → writer_check n w ≡ Fine → WriterChecked n w
+pub writer-checked : (n : ℕ) (w : PageWriter) → writer_check n w ≡ Ok tt → WriterChecked n w
 unfolding writer_check
 writer-checked n w fine =
     let a = asking-fine (flash_fine n) BadFlash _ fine in
@@ -75,13 +78,16 @@ writer-checked n w fine =
     let c = asking-fine (has_page n w.page.0) OutOfRange _ b.1 in
     record { flash = inside n w.page.0 a.0 c.0; range = range-known w b.0 }
 
+pub checked_small : (n : ℕ) (w : PageWriter) → writer_check n w ≡ Ok tt → Small w
+checked_small n w fine = range-small w (writer-checked n w fine).range
+
 -- of write_header with m bytes
 pub record HeadingChecked (n : ℕ) (w : PageWriter) (m : ℕ) : Type 0 where
   pub writer : WriterChecked n w
   pub own : m ≡ w.h
   pub small : m ≤ max_header_size
 
-pub heading-checked : (n : ℕ) (w : PageWriter) (m : ℕ) → heading_check n w m ≡ Fine → HeadingChecked n w m
+pub heading-checked : (n : ℕ) (w : PageWriter) (m : ℕ) → heading_check n w m ≡ Ok tt → HeadingChecked n w m
 unfolding heading_check
 heading-checked n w m fine =
     let a = asking-fine (flash_fine n) BadFlash _ fine in
@@ -94,16 +100,3 @@ heading-checked n w m fine =
       own = eqb-true m w.h header.0;
       small = (header-facts m header.1).1;
     }
-
--- ---- for the test of the ranges
-
-pub in-range-no : (w : PageWriter) → header_fine w.h ≡ false → false ≡ in_range w
-unfolding in_range
-in-range-no w e = rw e
-
-pub in-range-yes : (w : PageWriter) (p most used old : ℕ) → header_fine w.h ≡ true → p ≡ w.page.0
-    → most ≡ most_pending w.offset → used ≡ w.offset - first_chunk w.h → old ≡ w.total - w.pending
-    → (ltb p 256 && eqb (w.offset % 4) 0 && leb (12 + w.h) w.offset && leb w.offset page_size && leb w.pending most && leb old used) ≡ in_range w
-unfolding in_range
-in-range-yes w p most used old e a b c d =
-    rw (e, a, b, c, d, leb-iff (w.total - w.pending) (w.offset - (12 + w.h)) w.total (w.offset - (12 + w.h) + w.pending) (λ q. omega arith) (λ q. omega arith))

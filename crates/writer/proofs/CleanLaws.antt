@@ -1,6 +1,9 @@
 -- A writer that was opened to add stores within its page, on erased bytes alone: its places are erased when it is opened, and its own calls keep the
 -- later ones so, until one is refused. The page header is the one store that goes over what is there; it ends before those places.
 -- Assumes nothing.
+use Rattle.std.specs.Prelude.{Ok, Err}
+use Rattle.std.specs.declared.result.Result.{Result}
+use Rattle.types.specs.declared.refusal.Corrupted.{Corrupted}
 use mathlib.Core.Path.{◌≡◌, refl, sym, ap, subst, ◌∙◌}
 use mathlib.Core.Bool.{Bool, true, false, cond}
 use mathlib.Core.List.{List, [], ◌∷◌}
@@ -12,10 +15,8 @@ use lib.ListN.{length, drop, get_or, length-take, get_or-eq_default}
 use lib.Seq.{get_or-drop}
 use borrow.Author.Tests.{eq-eqb, ne_eqb}
 use Rattle.types.specs.Build.{page_size, align, chunk_header_size}
-use Rattle.types.specs.Checks.{refused_or}
+use Rattle.types.specs.Checks.{refused_or, Verdict}
 use Rattle.types.specs.declared.page_id.PageID.{PageID}
-use Rattle.types.specs.declared.refusal.Verdict.{Verdict}
-use Rattle.types.specs.declared.refusal.Verdict.TheVariants as verdict
 use Rattle.types.proofs.TestLaws.{decided, eq-or-ne, le-or-lt}
 use Rattle.crc.specs.Register.{finished}
 use Rattle.flash.specs.Geometry.{page_of}
@@ -27,8 +28,6 @@ use Rattle.page.specs.Checks.{open_check}
 use Rattle.page.specs.Chunks.{next_offset}
 use Rattle.page.specs.Headers.{page_header}
 use Rattle.page.specs.Walks.{walk_end, all_erased}
-use Rattle.page.specs.declared.walk.Ending.{Ending}
-use Rattle.page.specs.declared.walk.Ending.TheVariants.{EndAt, Corrupted}
 use Rattle.page.proofs.ErasedLaws.{erased-blank}
 use Rattle.page.proofs.PutLaws.{length-chunk_header, length-page_header}
 use Rattle.writer.specs.Commits.{group_at, rest_ops, seal_op, chunk_ops, next_chunk, commit_ops, committed}
@@ -39,7 +38,6 @@ use Rattle.writer.specs.Outcomes.{refused_at}
 use Rattle.writer.specs.States.{first_chunk, fresh}
 use Rattle.writer.specs.Checks.{heading_check}
 use Rattle.writer.specs.Writes.{takes, grown, is_full, close_ops, closed, payload_ops, taking_ops, taken_of, write_ops, written}
-use Rattle.types.specs.declared.answers.Outcome.TheVariants.{Done}
 use Rattle.writer.specs.declared.page_writer.PageWriter.{PageWriter}
 use Rattle.writer.proofs.CheckLaws.{InRange, heading-checked}
 use Rattle.writer.proofs.LiesOnLaws.{in-page}
@@ -75,16 +73,16 @@ resume-clean : (e : ℕ) (page : PageID) (h o : ℕ) (p : List ℕ) (t : Bool) �
 resume-clean e page h o p true short q = fresh-clean e page h o p (erased-from e o p q)
 resume-clean e page h o p false short q = fresh-clean e page h page_size p (λ i low. get_or-eq_default p e (let l : length p ≤ i = omega arith in l))
 
-pub append-clean : (e : ℕ) (xs : List ℕ) (page : PageID) (h : ℕ) (w : PageWriter) (left : ℕ) → (appended e xs page h w left).answer ≡ Done
+pub append-clean : (e : ℕ) (xs : List ℕ) (page : PageID) (h : ℕ) (w : PageWriter) (left : ℕ) → (appended e xs page h w left).answer ≡ Ok tt
     → Clean e (appended e xs page h w left).writer (page_of page.0 xs)
 unfolding appended
 append-clean e xs page h w left = by (open_check (length xs) h page) (walk_end (page_of page.0 xs) (first_chunk h))
   where
-    by : (v : Verdict) (end : Ending) → (refused_or v (refused_at w left) (appended_at e (page_of page.0 xs) page h w left end)).answer ≡ Done
+    by : (v : Verdict) (end : Result ℕ Corrupted) → (refused_or v (refused_at w left) (appended_at e (page_of page.0 xs) page h w left end)).answer ≡ Ok tt
         → Clean e (refused_or v (refused_at w left) (appended_at e (page_of page.0 xs) page h w left end)).writer (page_of page.0 xs)
-    by (verdict.Refused why) end a = let z : ◌≡◌ {A = ℕ} 0 1 = cc in absurd (omega arith)
-    by verdict.Fine Corrupted a = let z : ◌≡◌ {A = ℕ} 0 1 = cc in absurd (omega arith)
-    by verdict.Fine (EndAt o) a =
+    by (Err why) end a = let z : ◌≡◌ {A = ℕ} 0 1 = cc in absurd (omega arith)
+    by (Ok tt) (Err w) a = let z : ◌≡◌ {A = ℕ} 0 1 = cc in absurd (omega arith)
+    by (Ok tt) (Ok o) a =
         resume-clean e page h o (page_of page.0 xs) (all_erased e (drop o (page_of page.0 xs))) (rw length-take (omega arith)) refl
 
 -- ---- commit
@@ -178,7 +176,7 @@ write-clean e w bytes p s whole c =
 
 -- ---- write_header
 
-pub heading-clean : (n e : ℕ) (w : PageWriter) (magic : ℕ) (header p : List ℕ) → heading_check n w (length header) ≡ verdict.Fine → Clean e w p
+pub heading-clean : (n e : ℕ) (w : PageWriter) (magic : ℕ) (header p : List ℕ) → heading_check n w (length header) ≡ Ok tt → Clean e w p
     → Clean e (headed w) (applied 0 (header_ops e w magic header) p)
 unfolding header_ops
 heading-clean n e w magic header p v c =

@@ -1,12 +1,12 @@
 -- The operations that finish a chunk, run one after the other. Assumes nothing.
+use Rattle.std.specs.Prelude.{Ok, ⊤}
 use mathlib.Core.Path.{◌≡◌, refl}
 use mathlib.Core.Bool.{Bool, true, false, cond, not, ◌&&◌}
 use mathlib.Core.List.{List, [], ◌++◌}
 use Prim.Native.Nat.{ℕ}
 use lib.Dec.{eqb}
 use lib.ListN.{length, take-append-drop}
-use borrow.Author.Tests.{eq-eqb, ne_eqb}
-use Rattle.types.specs.declared.refusal.Verdict.TheVariants.{Fine}
+use borrow.Author.Tests.{ne_eqb}
 use Rattle.crc.specs.Register.{finished}
 use Rattle.flash.specs.Geometry.{page_start}
 use Rattle.flash.specs.Operations.{erase, store, op_if, all_lie_on}
@@ -19,9 +19,8 @@ use Rattle.writer.specs.Duties.{commit_duty}
 use Rattle.writer.specs.Outcomes.{ended_by}
 use Rattle.writer.specs.Checks.{writer_check}
 use Rattle.writer.specs.declared.answers.Ended.{Ended}
-use Rattle.types.specs.declared.answers.Outcome.TheVariants as outcome
 use Rattle.writer.specs.declared.page_writer.PageWriter.{PageWriter}
-use Rattle.writer.proofs.OutcomeLaws.{Ends, ends-ran, ends-none}
+use Rattle.writer.proofs.OutcomeLaws.{Ends, ends-ran}
 
 -- the padding is what the buffer holds
 pub last-group : (w : PageWriter) → last_group w ≡ w.buf
@@ -58,11 +57,8 @@ chunk-ran e left due w head v₀ v₁ v₂ v₃ x y z lie h p q r =
 
 -- ---- commit
 
-module _ (e : ℕ) (w : PageWriter) (left : ℕ) (xs : List ℕ) (fine : writer_check (length xs) w ≡ Fine) where
-  pub commit-none : w.pending ≡ 0 → Ends (commit_duty e xs w) w left xs (record { answer = outcome.Done; writer = w; left = left }) xs
-  commit-none z = rw (eq-eqb w.pending 0 z) (ends-none (writer_check (length xs) w) w left xs fine)
-
-  pub commit-some : (r : Spent) (ys : List ℕ) (next : PageWriter) (out : Ended) → (w.pending ≡ 0 → ⊥)
+module _ (e : ℕ) (w : PageWriter) (left : ℕ) (xs : List ℕ) (fine : writer_check (length xs) w ≡ Ok tt) where
+  pub commit-some : (r : Spent) (ys : List ℕ) (next : PageWriter) (out : Ended ⊤) → (w.pending ≡ 0 → ⊥)
       → Ran (page_start w.page.0) left (cond true (chunk_ops e w) []) xs r ys → next ≡ next_chunk w → out ≡ ended_by r next w
       → Ends (commit_duty e xs w) w left xs out ys
   commit-some r ys next out n ran f o =

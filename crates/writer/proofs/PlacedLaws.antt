@@ -1,5 +1,6 @@
 -- Every call's operations in their order: the erase, the payload's stores, the chunk's header. For a writer in range all lie within
 -- the page, and behind the page header. Assumes nothing.
+use Rattle.std.specs.Prelude.{Ok}
 use mathlib.Core.Path.{◌≡◌, refl, ap, ◌∙◌}
 use mathlib.Core.Bool.{true, false}
 use mathlib.Core.List.{List, [], ◌∷◌, ◌++◌}
@@ -9,7 +10,6 @@ use native.Mathlib.Omega.{arith}
 use lib.ListN.{length}
 use borrow.Author.Tests.{eq-eqb, ne_eqb, eqb-true}
 use Rattle.types.specs.Build.{page_size, align, chunk_header_size, max_chunk_size}
-use Rattle.types.specs.declared.refusal.Verdict.TheVariants.{Fine}
 use Rattle.types.proofs.TestLaws.{decided, eq-or-ne}
 use Rattle.crc.specs.Register.{finished}
 use Rattle.flash.specs.Operations.{Op, store}
@@ -95,7 +95,7 @@ write-placed e w bytes s four =
     (eq-or-ne (takes (length bytes) w) 0)
 
 -- the page header ends where the chunks start
-pub header-placed : (n : ℕ) (e : ℕ) (w : PageWriter) (magic : ℕ) (header : List ℕ) → heading_check n w (length header) ≡ Fine
+pub header-placed : (n : ℕ) (e : ℕ) (w : PageWriter) (magic : ℕ) (header : List ℕ) → heading_check n w (length header) ≡ Ok tt
     → (bytes : List ℕ) × ((header_ops e w magic header ≡ erase_ops e w ++ (store 0 bytes ∷ [])) × (length bytes ≡ first_chunk w.h))
 unfolding header_ops
 header-placed n e w magic header v =

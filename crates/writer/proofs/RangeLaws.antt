@@ -1,4 +1,7 @@
 -- A state in range stays in range, whatever the call and whether or not it is refused, and opening gives one. Assumes nothing.
+use Rattle.std.specs.Prelude.{Ok, Err, ⊤}
+use Rattle.std.specs.declared.result.Result.{Result}
+use Rattle.types.specs.declared.refusal.Corrupted.{Corrupted}
 use mathlib.Core.Path.{◌≡◌, refl, ap, ◌∙◌}
 use mathlib.Core.Bool.{Bool, true, false, cond}
 use mathlib.Core.List.{List}
@@ -8,18 +11,14 @@ use native.Mathlib.Omega.{arith}
 use lib.ListN.{length, drop, length-take}
 use borrow.Author.Tests.{eq-eqb, ne_eqb, eqb-true}
 use Rattle.types.specs.Build.{page_size, align, max_page_count, max_chunk_size}
-use Rattle.types.specs.Checks.{refused_or}
+use Rattle.types.specs.Checks.{refused_or, Verdict}
 use Rattle.types.specs.declared.page_id.PageID.{PageID}
-use Rattle.types.specs.declared.refusal.Verdict.{Verdict}
-use Rattle.types.specs.declared.refusal.Verdict.TheVariants as verdict
 use Rattle.types.proofs.TestLaws.{decided, eq-or-ne}
 use Rattle.flash.specs.Geometry.{page_of}
 use Rattle.flash.specs.Operations.{spent}
 use Rattle.page.specs.Checks.{open_check}
 use Rattle.page.specs.Headers.{header_fine}
 use Rattle.page.specs.Walks.{walk_end, all_erased}
-use Rattle.page.specs.declared.walk.Ending.{Ending}
-use Rattle.page.specs.declared.walk.Ending.TheVariants.{EndAt, Corrupted}
 use Rattle.page.proofs.CheckLaws.{open-checked}
 use Rattle.page.proofs.LaidLaws.{walk-ended}
 use Rattle.writer.specs.Commits.{next_chunk, committed}
@@ -30,7 +29,6 @@ use Rattle.writer.specs.Outcomes.{refused_at, wrote}
 use Rattle.writer.specs.States.{first_chunk, most_pending, in_range, fresh, new_writer}
 use Rattle.writer.specs.Writes.{takes, grown, is_full, closed, taken_of, written}
 use Rattle.writer.specs.declared.answers.Ended.{Ended}
-use Rattle.types.specs.declared.answers.Outcome.TheVariants.{Done}
 use Rattle.writer.specs.declared.page_writer.PageWriter.{PageWriter}
 use Rattle.writer.proofs.CheckLaws.{InRange, range-known, range-in}
 use Rattle.writer.proofs.OutcomeLaws.{by-check}
@@ -130,24 +128,24 @@ pub new-range : in_range new_writer ≡ true
 unfolding in_range
 new-range = refl
 
-open-fresh : (n : ℕ) (page : PageID) (h o : ℕ) (armed : Bool) → open_check n h page ≡ verdict.Fine → o % align ≡ 0 → first_chunk h ≤ o → o ≤ page_size
+open-fresh : (n : ℕ) (page : PageID) (h o : ℕ) (armed : Bool) → open_check n h page ≡ Ok tt → o % align ≡ 0 → first_chunk h ≤ o → o ≤ page_size
     → in_range (fresh armed page h o) ≡ true
 open-fresh n page h o armed e a b c =
     let checked = open-checked n h page e in
     fresh-range armed page h o checked.header checked.flash.low a b c
 
 -- the first chunk's place is one to go on at
-first-place : (n h : ℕ) (page : PageID) → open_check n h page ≡ verdict.Fine → (first_chunk h % align ≡ 0) × (first_chunk h ≤ page_size)
+first-place : (n h : ℕ) (page : PageID) → open_check n h page ≡ Ok tt → (first_chunk h % align ≡ 0) × (first_chunk h ≤ page_size)
 first-place n h page e = let checked = open-checked n h page e in (omega arith, omega arith)
 
-pub open-range : (xs : List ℕ) (page : PageID) (h : ℕ) (w : PageWriter) (left : ℕ) → (opened xs page h w left).answer ≡ Done → in_range (opened xs page h w left).writer ≡ true
+pub open-range : (xs : List ℕ) (page : PageID) (h : ℕ) (w : PageWriter) (left : ℕ) → (opened xs page h w left).answer ≡ Ok tt → in_range (opened xs page h w left).writer ≡ true
 unfolding opened
 open-range xs page h w left = by (open_check (length xs) h page) refl
   where
-    by : (v : Verdict) → open_check (length xs) h page ≡ v → (refused_or v (refused_at w left) (open_as (fresh true page h (first_chunk h)) left)).answer ≡ Done
+    by : (v : Verdict) → open_check (length xs) h page ≡ v → (refused_or v (refused_at w left) (open_as (fresh true page h (first_chunk h)) left)).answer ≡ Ok tt
         → in_range (refused_or v (refused_at w left) (open_as (fresh true page h (first_chunk h)) left)).writer ≡ true
-    by (verdict.Refused why) e a = let z : ◌≡◌ {A = ℕ} 0 1 = cc in absurd (omega arith)
-    by verdict.Fine e a = let f = first-place (length xs) h page e in open-fresh (length xs) page h (first_chunk h) true e f.0 (omega arith) f.1
+    by (Err why) e a = let z : ◌≡◌ {A = ℕ} 0 1 = cc in absurd (omega arith)
+    by (Ok tt) e a = let f = first-place (length xs) h page e in open-fresh (length xs) page h (first_chunk h) true e f.0 (omega arith) f.1
 
 -- where adding goes on: the end of the walk, or the page's end
 resume-place : (e h o : ℕ) (bytes : List ℕ) → o % align ≡ 0 → first_chunk h ≤ o → o ≤ page_size
@@ -158,17 +156,17 @@ resume-place e h o bytes a b c = by (all_erased e (drop o bytes))
     by true = (a, (b, c))
     by false = (refl, (omega arith, omega arith))
 
-pub append-range : (e : ℕ) (xs : List ℕ) (page : PageID) (h : ℕ) (w : PageWriter) (left : ℕ) → (appended e xs page h w left).answer ≡ Done
+pub append-range : (e : ℕ) (xs : List ℕ) (page : PageID) (h : ℕ) (w : PageWriter) (left : ℕ) → (appended e xs page h w left).answer ≡ Ok tt
     → in_range (appended e xs page h w left).writer ≡ true
 unfolding appended
 append-range e xs page h w left = by (open_check (length xs) h page) refl (walk_end (page_of page.0 xs) (first_chunk h)) refl
   where
-    by : (v : Verdict) → open_check (length xs) h page ≡ v → (end : Ending) → walk_end (page_of page.0 xs) (first_chunk h) ≡ end
-        → (refused_or v (refused_at w left) (appended_at e (page_of page.0 xs) page h w left end)).answer ≡ Done
+    by : (v : Verdict) → open_check (length xs) h page ≡ v → (end : Result ℕ Corrupted) → walk_end (page_of page.0 xs) (first_chunk h) ≡ end
+        → (refused_or v (refused_at w left) (appended_at e (page_of page.0 xs) page h w left end)).answer ≡ Ok tt
         → in_range (refused_or v (refused_at w left) (appended_at e (page_of page.0 xs) page h w left end)).writer ≡ true
-    by (verdict.Refused why) p end q a = let z : ◌≡◌ {A = ℕ} 0 1 = cc in absurd (omega arith)
-    by verdict.Fine p Corrupted q a = let z : ◌≡◌ {A = ℕ} 0 1 = cc in absurd (omega arith)
-    by verdict.Fine p (EndAt o) q a =
+    by (Err why) p end q a = let z : ◌≡◌ {A = ℕ} 0 1 = cc in absurd (omega arith)
+    by (Ok tt) p (Err w) q a = let z : ◌≡◌ {A = ℕ} 0 1 = cc in absurd (omega arith)
+    by (Ok tt) p (Ok o) q a =
         let f = first-place (length xs) h page p in
         let t = walk-ended (page_of page.0 xs) (first_chunk h) o q in
         let r = resume-place e h o (page_of page.0 xs) (t.group f.0) t.up (t.within f.1) in
@@ -177,25 +175,25 @@ append-range e xs page h w left = by (open_check (length xs) h page) refl (walk_
 -- ---- what each call hands back, refused or not
 
 -- an opening is done, or the writer is as at entry
-abbrev DoneOrBack : PageWriter → Ended → Type 0
-DoneOrBack w o = (o.answer ≡ Done) ⊎ (o.writer ≡ w)
+abbrev DoneOrBack : PageWriter → Ended ⊤ → Type 0
+DoneOrBack w o = (o.answer ≡ Ok tt) ⊎ (o.writer ≡ w)
 
 open-or-back : (xs : List ℕ) (page : PageID) (h : ℕ) (w : PageWriter) (left : ℕ) → DoneOrBack w (opened xs page h w left)
 unfolding opened
 open-or-back xs page h w left = by (open_check (length xs) h page)
   where
     by : (v : Verdict) → DoneOrBack w (refused_or v (refused_at w left) (open_as (fresh true page h (first_chunk h)) left))
-    by (verdict.Refused why) = inr refl
-    by verdict.Fine = inl refl
+    by (Err why) = inr refl
+    by (Ok tt) = inl refl
 
 append-or-back : (e : ℕ) (xs : List ℕ) (page : PageID) (h : ℕ) (w : PageWriter) (left : ℕ) → DoneOrBack w (appended e xs page h w left)
 unfolding appended
 append-or-back e xs page h w left = by (open_check (length xs) h page) (walk_end (page_of page.0 xs) (first_chunk h))
   where
-    by : (v : Verdict) (end : Ending) → DoneOrBack w (refused_or v (refused_at w left) (appended_at e (page_of page.0 xs) page h w left end))
-    by (verdict.Refused why) end = inr refl
-    by verdict.Fine Corrupted = inr refl
-    by verdict.Fine (EndAt o) = inl refl
+    by : (v : Verdict) (end : Result ℕ Corrupted) → DoneOrBack w (refused_or v (refused_at w left) (appended_at e (page_of page.0 xs) page h w left end))
+    by (Err why) end = inr refl
+    by (Ok tt) (Err w) = inr refl
+    by (Ok tt) (Ok o) = inl refl
 
 module _ (e : ℕ) (xs : List ℕ) (w : PageWriter) (left : ℕ) (r : in_range w ≡ true) where
   pub open-in-range : (page : PageID) (h : ℕ) → in_range (opened xs page h w left).writer ≡ true

@@ -1,4 +1,6 @@
 -- The operations of a write, run one after the other. Assumes nothing.
+use Rattle.std.specs.Prelude.{Ok}
+use Rattle.types.specs.Checks.{Verdict}
 use mathlib.Core.Path.{◌≡◌, sym, ap, ◌∙◌}
 use mathlib.Core.Bool.{true, cond, not, ◌&&◌}
 use mathlib.Core.List.{List, [], ◌++◌, append_assoc}
@@ -6,11 +8,8 @@ use Prim.Native.Nat.{ℕ, ◌+◌, ◌-◌, ◌≤◌, min}
 use native.Mathlib.Omega.{arith}
 use lib.Dec.{eqb, leb}
 use lib.ListN.{length, take, drop, length-take}
-use borrow.Author.Tests.{eq-eqb, ne_eqb}
+use borrow.Author.Tests.{ne_eqb}
 use Rattle.types.specs.Build.{page_size, max_chunk_size}
-use Rattle.types.specs.declared.refusal.Refusal.{Refusal}
-use Rattle.types.specs.declared.refusal.Verdict.{Verdict}
-use Rattle.types.specs.declared.refusal.Verdict.TheVariants.{Fine, Refused}
 use Rattle.flash.specs.Geometry.{page_start}
 use Rattle.flash.specs.Operations.{erase, store, op_if, all_lie_on}
 use Rattle.flash.specs.declared.ops.Spent.{Spent}
@@ -18,14 +17,14 @@ use Rattle.flash.proofs.LiesOnLaws.{RanOn, lies-both, on-ran, ran-next}
 use Rattle.flash.proofs.OperationLaws.{Ran, ran_append}
 use Rattle.writer.specs.Commits.{payload_from, group_at, chunk_ops}
 use Rattle.writer.specs.Duties.{Duty, write_duty, hands_back, leaves}
-use Rattle.writer.specs.Outcomes.{ended_by, wrote}
+use Rattle.writer.specs.Outcomes.{ended_with, wrote}
 use Rattle.writer.specs.Checks.{writer_check}
 use Rattle.writer.specs.Writes.{takes, lacking, to_group, completes, to_whole, whole_at, group_of, whole_of, grown, close_ops, closed, payload_ops, taking_ops}
+use Rattle.writer.specs.States.{Small}
 use Rattle.writer.specs.declared.answers.Ended.{Ended}
-use Rattle.writer.specs.declared.answers.Taking.TheVariants as taking
-use Rattle.writer.specs.declared.answers.Wrote.{Wrote}
 use Rattle.writer.specs.declared.page_writer.PageWriter.{PageWriter}
-use Rattle.writer.proofs.OutcomeLaws.{ends-refused, ends-ran, ends-none}
+use Rattle.writer.proofs.CheckLaws.{checked_small}
+use Rattle.writer.proofs.OutcomeLaws.{ends-ran, wrote-ended}
 
 -- the runs of the erase, the group, the whole groups and the chunk's end; v₀ to v₄ is the flash before, between and after them
 pub taking-ran : (e left lack first many : ℕ) (w next : PageWriter) (bytes group part v₀ v₁ v₂ v₃ v₄ : List ℕ) (x y z u : Spent)
@@ -64,14 +63,19 @@ taken-fits w bytes n e h = rw length-take (fits (length bytes) (page_size - (w.o
     fits : (l page p n : ℕ) → n ≡ min l (min page (max_chunk_size - p)) → p ≤ max_chunk_size → p + min n l ≤ max_chunk_size
     fits l page p n e h = omega arith
 
-pub grown-fits : (w next : PageWriter) (bytes : List ℕ) → next ≡ grown w bytes → w.offset ≤ page_size → w.pending + length bytes ≤ max_chunk_size
-    → (next.offset ≤ page_size) × (next.pending ≤ max_chunk_size)
-grown-fits w next bytes e o p = rw e (o, p)
+pub grown-small : (w next : PageWriter) (bytes : List ℕ) → next ≡ grown w bytes → w.offset ≤ page_size → w.pending + length bytes ≤ max_chunk_size → Small next
+grown-small w next bytes e o p = record { within = rw e o; short = rw e p }
+
+-- the writer with the bytes that a call takes
+pub taken_small : (m n : ℕ) (w next : PageWriter) (bytes : List ℕ) → writer_check m w ≡ Ok tt → n ≡ takes (length bytes) w → next ≡ grown w (take n bytes) → Small next
+taken_small m n w next bytes fine t g =
+    let s = checked_small m w fine in
+    grown-small w next (take n bytes) g s.within (taken-fits w bytes n t s.short)
 
 -- ---- write
 
 -- out is handed back and ys is the flash, as the definition says
-abbrev pub Writes : ℕ → PageWriter → List ℕ → ℕ → List ℕ → Wrote → List ℕ → Type 0
+abbrev pub Writes : ℕ → PageWriter → List ℕ → ℕ → List ℕ → Ended ℕ → List ℕ → Type 0
 Writes e w bytes left xs out ys =
     (out ≡ wrote (takes (length bytes) w) (hands_back (write_duty e xs w bytes) w left)) × (ys ≡ leaves (write_duty e xs w bytes) w left xs)
 
@@ -79,21 +83,10 @@ module _ (e : ℕ) (w : PageWriter) (bytes : List ℕ) (left : ℕ) (xs : List �
   abbrev checks : Verdict
   checks = writer_check (length xs) w
 
-  pub write-refused : (why : Refusal) → checks ≡ Refused why → Writes e w bytes left xs (record { answer = taking.Refused why; writer = w; left = left }) xs
-  write-refused why f =
-      let r = ends-refused (write_duty e xs w bytes) w left xs why f in
-      (ap (wrote (takes (length bytes) w)) r.0, r.1)
-
-  pub write-none : (n : ℕ) → checks ≡ Fine → n ≡ takes (length bytes) w → n ≡ 0
-      → Writes e w bytes left xs (record { answer = taking.Took n; writer = w; left = left }) xs
-  write-none n f t z =
-      let r = ends-none checks w left xs f in
-      rw (eq-eqb (takes (length bytes) w) 0 (sym t ∙ z), ← t) (ap (wrote n) r.0, r.1)
-
-  pub write-some : (n : ℕ) (r : Spent) (ys : List ℕ) (next after : PageWriter) (end : Ended) (out : Wrote) → checks ≡ Fine → n ≡ takes (length bytes) w → (n ≡ 0 → ⊥)
-      → next ≡ grown w (take n bytes) → Ran (page_start w.page.0) left (taking_ops e w (take n bytes)) xs r ys → after ≡ closed next → end ≡ ended_by r after w → out ≡ wrote n end
+  pub write-some : (n : ℕ) (r : Spent) (ys : List ℕ) (next after : PageWriter) (out : Ended ℕ) → checks ≡ Ok tt → n ≡ takes (length bytes) w → (n ≡ 0 → ⊥)
+      → next ≡ grown w (take n bytes) → Ran (page_start w.page.0) left (taking_ops e w (take n bytes)) xs r ys → after ≡ closed next → out ≡ ended_with n r after w
       → Writes e w bytes left xs out ys
-  write-some n r ys next after end out f t z g ran c d o =
+  write-some n r ys next after out f t z g ran c o =
       let whole : Duty = record { check = checks; ops = taking_ops e w (take n bytes); next = closed (grown w (take n bytes)) } in
       let q = ends-ran whole w left xs r ys f ran in
-      rw (ne_eqb (takes (length bytes) w) 0 (λ k. z (t ∙ k)), ← t, o, d, c, g) (ap (wrote n) q.0, q.1)
+      rw (ne_eqb (takes (length bytes) w) 0 (λ k. z (t ∙ k)), ← t, o, c, g) (sym (wrote-ended n r (closed (grown w (take n bytes))) w) ∙ ap (wrote n) q.0, q.1)

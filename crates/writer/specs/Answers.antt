@@ -1,18 +1,14 @@
 -- Each answer as numbers (docs/RULES.md, Refusals): the number of the row that refuses, 0 where none does, and the values.
 -- Assumes nothing.
-use Rattle.std.specs.Prelude.{[], ◌∷◌}
-use Rattle.types.specs.Answers.{Told, answered, refusal}
-use Rattle.writer.specs.declared.answers.Length.{Length}
-use Rattle.writer.specs.declared.answers.Length.TheVariants as len
-use Rattle.writer.specs.declared.answers.Taking.{Taking}
-use Rattle.writer.specs.declared.answers.Taking.TheVariants as taking
+use Rattle.std.specs.declared.result.Result.{Result}
+use Rattle.types.specs.declared.refusal.Refusal.{Refusal}
+use Rattle.std.specs.Prelude.{ℕ}
+use Rattle.types.specs.Answers.{Told, size_told}
 
 -- how many bytes were taken
-abbrev pub taking_told : Taking → Told
-taking_told (taking.Took n) = answered (n ∷ [])
-taking_told (taking.Refused why) = refusal why
+abbrev pub taking_told : Result ℕ Refusal → Told
+taking_told = size_told
 
 -- how many bytes there are
-abbrev pub length_told : Length → Told
-length_told (len.Bytes n) = answered (n ∷ [])
-length_told (len.Refused why) = refusal why
+abbrev pub length_told : Result ℕ Refusal → Told
+length_told = size_told

@@ -1,6 +1,6 @@
 -- Calls of a writer, each on the flash, the writer and the stores left that the one before left (`left_after` and `told_by_each` of
 -- types say what calls one after another leave and tell). Assumes nothing.
-use Rattle.std.specs.Prelude.{List, [], ℕ, length}
+use Rattle.std.specs.Prelude.{List, [], ℕ, length, ⊤}
 use Rattle.types.specs.Answers.{Told, outcome_told}
 use Rattle.types.specs.Build.{erase_value}
 use Rattle.types.specs.declared.page_id.PageID.{PageID}
@@ -37,7 +37,7 @@ abbrev pub duty_in : ℕ → World → AddCall → Duty
 duty_in e x call = duty_of e call x.flash x.writer
 
 -- the answer, the writer and the stores left that it hands back
-abbrev pub hands_back_in : ℕ → World → AddCall → Ended
+abbrev pub hands_back_in : ℕ → World → AddCall → Ended ⊤
 hands_back_in e x call = hands_back (duty_in e x call) x.writer x.left
 
 -- what it leaves to the next call
@@ -54,7 +54,7 @@ abbrev pub makes_in : ℕ → World → AddCall → List Op
 makes_in e x call = makes (duty_in e x call) x.left
 
 -- what it answers: a write, how many bytes it took
-abbrev pub end_told : PageWriter → AddCall → Ended → Told
+abbrev pub end_told : PageWriter → AddCall → Ended ⊤ → Told
 end_told w (writes bytes) end = taking_told (wrote (takes (length bytes) w) end).answer
 end_told w commits end = outcome_told end.answer
 end_told w (heads magic header) end = outcome_told end.answer
@@ -69,14 +69,14 @@ pub data Call : Type 0 where
 abbrev first_page : PageID
 first_page = record { 0 = 0 }
 
-abbrev pub open_of : World → ℕ → ℕ → Ended
+abbrev pub open_of : World → ℕ → ℕ → Ended ⊤
 open_of x h power = opened x.flash first_page h x.writer power
 
-abbrev pub append_of : World → ℕ → ℕ → Ended
+abbrev pub append_of : World → ℕ → ℕ → Ended ⊤
 append_of x h power = appended erase_value x.flash first_page h x.writer power
 
 -- an opening leaves the flash as it is
-abbrev pub opened_on : List ℕ → Ended → World
+abbrev pub opened_on : List ℕ → Ended ⊤ → World
 opened_on flash o = record { flash = flash; writer = o.writer; left = o.left }
 
 -- what it answers

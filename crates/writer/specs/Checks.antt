@@ -1,9 +1,7 @@
 -- The checks before a call's work, in their order, 5, 6, 11, 4 (docs/RULES.md, Order of checks). Assumes nothing.
-use Rattle.std.specs.Prelude.{◌&&◌, ℕ, eqb}
-use Rattle.types.specs.Checks.{asking}
+use Rattle.std.specs.Prelude.{◌&&◌, ℕ, eqb, Ok}
+use Rattle.types.specs.Checks.{asking, Verdict}
 use Rattle.types.specs.declared.refusal.Refusal.TheVariants.{BadFlash, BadHeader, BadState}
-use Rattle.types.specs.declared.refusal.Verdict.{Verdict}
-use Rattle.types.specs.declared.refusal.Verdict.TheVariants.{Fine}
 use Rattle.flash.specs.Geometry.{flash_fine}
 use Rattle.page.specs.Checks.{page_check}
 use Rattle.page.specs.Headers.{header_fine}
@@ -12,11 +10,11 @@ use Rattle.writer.specs.declared.page_writer.PageWriter.{PageWriter}
 
 -- 11
 abbrev pub state_check : PageWriter → Verdict
-state_check w = asking (in_range w) BadState Fine
+state_check w = asking (in_range w) BadState (Ok tt)
 
 -- 6, of m header bytes, where m is not the writer's h or not allowed
 abbrev pub length_check : ℕ → ℕ → Verdict
-length_check m h = asking (eqb m h && header_fine m) BadHeader Fine
+length_check m h = asking (eqb m h && header_fine m) BadHeader (Ok tt)
 
 -- 5, 11, 4, of write and commit on a flash of n bytes
 unfoldable pub writer_check : ℕ → PageWriter → Verdict

@@ -1,8 +1,7 @@
 -- The calls that owe operations (docs/RULES.md, Adding): write, commit and write_header. Each definition holds for any
 -- erase value e. Assumes nothing.
-use Rattle.std.specs.Prelude.{List, [], ℕ, length, take}
-use Rattle.types.specs.Checks.{refused_or}
-use Rattle.types.specs.declared.refusal.Verdict.{Verdict}
+use Rattle.std.specs.Prelude.{List, [], ℕ, length, take, ⊤}
+use Rattle.types.specs.Checks.{refused_or, Verdict}
 use Rattle.flash.specs.Geometry.{page_start}
 use Rattle.flash.specs.Operations.{Op, spent, allowed}
 use Rattle.writer.specs.Commits.{commit_ops, committed}
@@ -34,7 +33,7 @@ heading_duty e flash w magic header =
 -- ---- what one comes to, where `left` stores are left
 
 -- the answer, the writer and the stores left
-abbrev pub hands_back : Duty → PageWriter → ℕ → Ended
+abbrev pub hands_back : Duty → PageWriter → ℕ → Ended ⊤
 hands_back d w left = refused_or d.check (refused_at w left) (ended_by (spent left d.ops) d.next w)
 
 -- the flash after it

@@ -1,5 +1,5 @@
 -- The state of a writer and its ranges (docs/RULES.md, Ranges). Assumes nothing.
-use Rattle.std.specs.Prelude.{Bool, true, ◌&&◌, ℕ, ◌+◌, ◌-◌, ◌%◌, min, eqb, leb, ltb, replicate}
+use Rattle.std.specs.Prelude.{Bool, true, ◌&&◌, ℕ, ◌+◌, ◌-◌, ◌%◌, ◌≤◌, min, eqb, leb, ltb, replicate}
 use Rattle.types.specs.Build.{page_size, align, max_page_count, page_header_size, chunk_header_size, max_chunk_size}
 use Rattle.types.specs.declared.page_id.PageID.{PageID}
 use Rattle.crc.specs.Register.{preset}
@@ -13,6 +13,11 @@ first_chunk h = page_header_size + h
 -- the most bytes of a chunk at offset o, which is 0 where its header has no room either
 abbrev pub most_pending : ℕ → ℕ
 most_pending o = min max_chunk_size (page_size - chunk_header_size - o)
+
+-- a writer whose numbers are small enough to be added
+pub record Small (w : PageWriter) : Type 0 where
+  pub within : w.offset ≤ page_size
+  pub short : w.pending ≤ max_chunk_size
 
 -- whether h, page, offset, pending and len are each in their range
 unfoldable pub in_range : PageWriter → Bool

@@ -10,79 +10,59 @@ use page::header::check_header;
 use types::config::{
     ALIGN, CHUNK_HEADER_SIZE, MAX_CHUNK_SIZE, MAX_PAGE_COUNT, PAGE_HEADER_SIZE, PAGE_SIZE,
 };
-use types::num::{min, minus};
-use types::refusal::{Refusal, Verdict};
+use types::refusal::Refusal;
 
 // Whether the state is in its ranges.
+#[tactic(auto, unfolding(crate::specs::States::in_range))]
 fn in_range(w: PageWriter) -> bool
     ensures answers { result ≡ in_range w }
 {
-    let Verdict::Fine = check_header(w.h) else {
-        return false;
-    };
-    let page = w.page;
-    let start = PAGE_HEADER_SIZE + w.h;
-    let most = min(
-        MAX_CHUNK_SIZE,
-        minus(PAGE_SIZE - CHUNK_HEADER_SIZE, w.offset),
-    );
-    let used = minus(w.offset, start);
-    let old = minus(w.total, w.pending);
-    (page.index() < MAX_PAGE_COUNT)
-        & (w.offset % ALIGN == 0)
-        & (start <= w.offset)
-        & (w.offset <= PAGE_SIZE)
-        & (w.pending <= most)
-        & (old <= used)
+    check_header(w.h).is_ok()
+        && w.page.index() < MAX_PAGE_COUNT
+        && w.offset % ALIGN == 0
+        && PAGE_HEADER_SIZE + w.h <= w.offset
+        && w.offset <= PAGE_SIZE
+        && w.pending <= MAX_CHUNK_SIZE.min((PAGE_SIZE - CHUNK_HEADER_SIZE).saturating_sub(w.offset))
+        && w.total <= w.offset - (PAGE_HEADER_SIZE + w.h) + w.pending
 }
 
-pub(crate) fn check_state(w: PageWriter) -> Verdict
+pub(crate) fn check_state(w: PageWriter) -> Result<(), Refusal>
     ensures answers { result ≡ state_check w }
 {
     if in_range(w) {
-        Verdict::Fine
+        Ok(())
     } else {
-        Verdict::Refused(Refusal::BadState)
+        Err(Refusal::BadState)
     }
 }
 
-fn check_length(m: usize, h: usize) -> Verdict
+fn check_length(m: usize, h: usize) -> Result<(), Refusal>
     ensures answers { result ≡ length_check m h }
 {
     if m == h {
         check_header(m)
     } else {
-        Verdict::Refused(Refusal::BadHeader)
+        Err(Refusal::BadHeader)
     }
 }
 
 // The checks of write and commit.
-pub(crate) fn check_writer(bytes: usize, w: PageWriter) -> Verdict
+#[tactic(auto, unfolding(crate::specs::Checks::writer_check))]
+pub(crate) fn check_writer(bytes: usize, w: PageWriter) -> Result<(), Refusal>
     ensures answers { result ≡ writer_check bytes w }
 {
-    if let Verdict::Refused(why) = check_flash(bytes) {
-        return Verdict::Refused(why);
-    }
-    if let Verdict::Refused(why) = check_state(w) {
-        return Verdict::Refused(why);
-    }
-    let page = w.page;
-    check_page(bytes, page)
+    check_flash(bytes)?;
+    check_state(w)?;
+    check_page(bytes, w.page)
 }
 
 // The checks of write_header with m bytes.
-pub(crate) fn check_heading(bytes: usize, w: PageWriter, m: usize) -> Verdict
+#[tactic(auto, unfolding(crate::specs::Checks::heading_check))]
+pub(crate) fn check_heading(bytes: usize, w: PageWriter, m: usize) -> Result<(), Refusal>
     ensures answers { result ≡ heading_check bytes w m }
 {
-    if let Verdict::Refused(why) = check_flash(bytes) {
-        return Verdict::Refused(why);
-    }
-    if let Verdict::Refused(why) = check_length(m, w.h) {
-        return Verdict::Refused(why);
-    }
-    if let Verdict::Refused(why) = check_state(w) {
-        return Verdict::Refused(why);
-    }
-    let page = w.page;
-    check_page(bytes, page)
+    check_flash(bytes)?;
+    check_length(m, w.h)?;
+    check_state(w)?;
+    check_page(bytes, w.page)
 }

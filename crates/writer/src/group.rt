@@ -3,10 +3,9 @@ ghost use Rattle.std.specs.Prelude.{◌≡◌};
 ghost use Rattle.slices.specs.Patch.{patch};
 ghost use Rattle.writer.specs.Writes.{lacking, to_group, to_whole, group_of, buffer_of};
 
-use crate::buffer::put_at;
 use crate::page_writer::PageWriter;
+use slices::part::put_at;
 use types::config::ALIGN;
-use types::num::min;
 
 // How many bytes complete the current group.
 pub(crate) fn lacking(w: PageWriter) -> usize
@@ -19,7 +18,7 @@ pub(crate) fn lacking(w: PageWriter) -> usize
 pub(crate) fn to_group(w: PageWriter, n: usize) -> usize
     ensures answers { result ≡ to_group w n }
 {
-    min(lacking(w), n)
+    lacking(w).min(n)
 }
 
 // How many of n bytes go to the whole groups behind it.
@@ -39,15 +38,16 @@ fn filled(buf: [u8; ALIGN], at: usize, bytes: &[u8]) -> [u8; ALIGN]
 }
 
 // The current group with the first bytes in it.
+#[tactic(auto, unfolding(crate::specs::Writes::group_of))]
 pub(crate) fn group_of(w: PageWriter, bytes: &[u8]) -> [u8; ALIGN]
     ensures answers { result ≡ group_of w bytes.now }
 {
     let n = to_group(w, bytes.len());
-    let buf = w.buf;
-    filled(buf, w.pending % ALIGN, &bytes[..n])
+    filled(w.buf, w.pending % ALIGN, &bytes[..n])
 }
 
 // The group buffer after the whole groups are stored: the bytes left over are in it.
+#[tactic(auto, using(crate::proofs::GroupLaws::take_rest, crate::proofs::GroupLaws::patch_start), unfolding(crate::specs::Writes::buffer_of))]
 pub(crate) fn buffer_of(w: PageWriter, bytes: &[u8]) -> [u8; ALIGN]
     ensures answers { result ≡ buffer_of w bytes.now }
 {

@@ -7,17 +7,15 @@ ghost use Rattle.writer.specs.Duties.{heading_duty, hands_back, leaves};
 ghost use Rattle.writer.specs.Headings.{header_room, header_ops};
 
 use crate::answers::Ended;
-use crate::buffer::put_at;
 use crate::checks::check_heading;
 use crate::outcome::ended_by;
 use crate::page_writer::PageWriter;
 use crc::crc32;
 use flash::ops::{Spent, erase_if, store_if};
 use slices::field::put32;
-use types::answers::Outcome;
+use slices::part::put_at;
 use types::config::{ERASE_VALUE, MAX_HEADER_SIZE, PAGE_HEADER_SIZE};
 use types::page_id::PageID;
-use types::refusal::Verdict;
 
 // A page header at the start of an array that has room for the longest one.
 fn header_room(magic: u32, page: PageID, header: &[u8]) -> [u8; PAGE_HEADER_SIZE + MAX_HEADER_SIZE]
@@ -54,20 +52,18 @@ fn head_page(w: PageWriter, flash: &mut [u8], magic: u32, header: &[u8], left: u
 
 impl PageWriter {
     // Stores the page header.
-    pub fn write_header(self, flash: &mut [u8], magic: u32, header: &[u8], left: usize) -> Ended
+    pub fn write_header(self, flash: &mut [u8], magic: u32, header: &[u8], left: usize) -> Ended<()>
         ensures answers { result ≡ hands_back (heading_duty erase_value flash.old self magic header.now) self left }
         ensures bytes { flash.new ≡ leaves (heading_duty erase_value flash.old self magic header.now) self left flash.old }
     {
-        if let Verdict::Refused(why) = check_heading(flash.len(), self, header.len()) {
-            return Ended {
-                answer: Outcome::Refused(why),
-                writer: self,
-                left,
-            };
+        if let Err(why) = check_heading(flash.len(), self, header.len()) {
+            return self.answers(Err(why), left);
         }
         let stores = head_page(self, flash, magic, header, left);
-        let mut next = self;
-        next.armed = false;
-        ended_by(stores, next, self)
+        let next = PageWriter {
+            armed: false,
+            ..self
+        };
+        ended_by(stores, (), next, self)
     }
 }

@@ -3,7 +3,6 @@
 #![tactic(auto)]
 
 pub mod answers;
-mod buffer;
 mod checks;
 mod commit;
 mod group;

@@ -3,13 +3,11 @@ ghost use Rattle.std.specs.Prelude.{◌≡◌};
 ghost use Rattle.writer.specs.Outcomes.{length_of, page_id};
 ghost use Rattle.writer.specs.States.{fresh, new_writer};
 
-use crate::answers::Length;
 use crate::checks::check_state;
 use crc::register::Crc32;
-use types::answers::PageOf;
 use types::config::{ALIGN, PAGE_HEADER_SIZE};
 use types::page_id::PageID;
-use types::refusal::Verdict;
+use types::refusal::Refusal;
 
 #[derive(Clone, Copy)]
 pub struct PageWriter {
@@ -53,22 +51,17 @@ impl PageWriter {
     }
 
     // Bytes taken since the page was opened.
-    pub fn len(self) -> Length
+    pub fn len(self) -> Result<usize, Refusal>
         ensures answers { result ≡ length_of self }
     {
-        if let Verdict::Refused(why) = check_state(self) {
-            return Length::Refused(why);
-        }
-        Length::Bytes(self.total)
+        check_state(self)?;
+        Ok(self.total)
     }
 
-    pub fn page_id(self) -> PageOf
+    pub fn page_id(self) -> Result<PageID, Refusal>
         ensures answers { result ≡ page_id self }
     {
-        if let Verdict::Refused(why) = check_state(self) {
-            return PageOf::Refused(why);
-        }
-        let page = self.page;
-        PageOf::Page(page)
+        check_state(self)?;
+        Ok(self.page)
     }
 }

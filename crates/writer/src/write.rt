@@ -3,32 +3,30 @@ ghost use Rattle.std.specs.Prelude.{◌≡◌, true, ◌+◌, ◌≤◌, length}
 ghost use Rattle.types.specs.Build.{page_size, max_chunk_size, erase_value};
 ghost use Rattle.flash.specs.Geometry.{page_start};
 ghost use Rattle.flash.specs.Operations.{spent, allowed, all_lie_on};
+ghost use Rattle.writer.specs.States.{Small};
 ghost use Rattle.writer.specs.Duties.{write_duty, hands_back, leaves};
 ghost use Rattle.writer.specs.Outcomes.{wrote};
 ghost use Rattle.writer.specs.Writes.{takes, grown, closed, taking_ops};
 
-use crate::answers::{Taking, Wrote};
+use crate::answers::Ended;
 use crate::checks::check_writer;
 use crate::commit::{finish_chunk, next_chunk};
 use crate::group::{buffer_of, group_of, lacking, to_group, to_whole};
-use crate::outcome::{ended_by, wrote};
+use crate::outcome::ended_by;
 use crate::page_writer::PageWriter;
 use crc::register::Crc32;
 use flash::ops::{Spent, erase_if, store_if};
 use slices::part::part_of;
 use types::config::{ALIGN, CHUNK_HEADER_SIZE, ERASE_VALUE, MAX_CHUNK_SIZE, PAGE_SIZE};
-use types::num::{min, minus};
-use types::refusal::Verdict;
 
 // How many of n bytes are taken.
 fn takes(n: usize, w: PageWriter) -> usize
-    requires offset_le_page_size { w.offset ≤ page_size }
-    requires pending_le_max_chunk_size { w.pending ≤ max_chunk_size }
+    requires small { Small w }
     ensures answers { result ≡ takes n w }
 {
-    let page = minus(PAGE_SIZE, w.offset + CHUNK_HEADER_SIZE + w.pending);
-    let chunk = minus(MAX_CHUNK_SIZE, w.pending);
-    min(n, min(page, chunk))
+    let page = PAGE_SIZE.saturating_sub(w.offset + CHUNK_HEADER_SIZE + w.pending);
+    let chunk = MAX_CHUNK_SIZE - w.pending;
+    n.min(page.min(chunk))
 }
 
 // The writer after it took these bytes.
@@ -37,23 +35,19 @@ fn grown(w: PageWriter, bytes: &[u8]) -> PageWriter
     requires bytes_bound { w.pending + length bytes.now ≤ max_chunk_size }
     ensures answers { result ≡ grown w bytes.now }
 {
-    let page = w.page;
     PageWriter {
-        page,
-        h: w.h,
         armed: false,
         crc: Crc32(w.crc).update(bytes).0,
         buf: buffer_of(w, bytes),
         total: w.total + bytes.len(),
-        offset: w.offset,
         pending: w.pending + bytes.len(),
+        ..w
     }
 }
 
 // The writer after its chunk, if that is full.
 fn closed(w: PageWriter) -> PageWriter
-    requires offset_le_page_size { w.offset ≤ page_size }
-    requires pending_le_max_chunk_size { w.pending ≤ max_chunk_size }
+    requires small { Small w }
     ensures answers { result ≡ closed w }
 {
     if w.pending == MAX_CHUNK_SIZE {
@@ -66,8 +60,7 @@ fn closed(w: PageWriter) -> PageWriter
 // The operations of a write that takes these bytes, where `next` is the writer with them. They lie on the flash. If one is cut, none
 // is left, so the later ones make nothing.
 fn take_bytes(w: PageWriter, next: PageWriter, flash: &mut [u8], bytes: &[u8], left: usize) -> Spent
-    requires offset_le_page_size { w.offset ≤ page_size }
-    requires bytes_bound { w.pending + length bytes.now ≤ max_chunk_size }
+    requires small { Small next }
     requires next_value { next ≡ grown w bytes.now }
     requires bytes_value { all_lie_on (length flash.old) w.page.0 (taking_ops erase_value w bytes.now) ≡ true }
     ensures answers { result ≡ spent left (taking_ops erase_value w bytes.now) }
@@ -106,28 +99,21 @@ fn take_bytes(w: PageWriter, next: PageWriter, flash: &mut [u8], bytes: &[u8], l
 
 impl PageWriter {
     // Takes as many of the bytes as there is room for.
-    pub fn write(self, flash: &mut [u8], bytes: &[u8], left: usize) -> Wrote
+    #[tactic(auto, using(crate::proofs::CheckLaws::checked_small))]
+    pub fn write(self, flash: &mut [u8], bytes: &[u8], left: usize) -> Ended<usize>
         ensures answers { result ≡ wrote (takes (length bytes.now) self) (hands_back (write_duty erase_value flash.old self bytes.now) self left) }
         ensures bytes { flash.new ≡ leaves (write_duty erase_value flash.old self bytes.now) self left flash.old }
     {
-        if let Verdict::Refused(why) = check_writer(flash.len(), self) {
-            return Wrote {
-                answer: Taking::Refused(why),
-                writer: self,
-                left,
-            };
+        if let Err(why) = check_writer(flash.len(), self) {
+            return self.answers(Err(why), left);
         }
         let n = takes(bytes.len(), self);
         if n == 0 {
-            return Wrote {
-                answer: Taking::Took(n),
-                writer: self,
-                left,
-            };
+            return self.answers(Ok(n), left);
         }
         let part = &bytes[..n];
         let next = grown(self, part);
         let stores = take_bytes(self, next, flash, part, left);
-        wrote(n, ended_by(stores, closed(next), self))
+        ended_by(stores, n, closed(next), self)
     }
 }

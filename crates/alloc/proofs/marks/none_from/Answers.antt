@@ -1,10 +1,9 @@
 use mathlib.Core.Path.{◌≡◌, sym}
-use Prim.Native.Nat.{◌/◌}
+use Prim.Native.Nat.{◌+◌, ◌-◌, ◌/◌}
 use native.Mathlib.Omega.{arith}
-use lib.ListN.{length, get_or}
+use lib.ListN.{length, take, drop, length-drop}
+use lib.Seq.{take_all}
 use borrow.Author.Tests.{eq-eqb}
-use mir.Syntax.{w8}
-use mir.Val.{Fits}
 use Rattle.alloc.proofs.CountLaws.{drop-marks_of-end, none_from}
 use borrow.Author.Rules.{rules}
 use Rattle.alloc.proofs.marks.none_from.Goals as goal
@@ -21,8 +20,8 @@ pub returns : goal.returns
 returns c =
     record {
       answers =
-          let byte : Fits w8 (get_or c.args.pages.now (c.args.page / 8) 0) = c.shared_slice_known-2-1.given (c.args.page / 8) in
           let bs = c.args.pages.now in
           let p = c.args.page in
-          rw c.count_from.ensures.answers (sym (none_from bs p (search rules) byte.fits));
+          let rest : take (32 - (p / 8 + 1)) (drop (p / 8 + 1) bs) ≡ drop (p / 8 + 1) bs = take_all _ _ (omega (arith, length-drop (p / 8 + 1) bs, c.told-pages)) in
+          rw (c.count.ensures.answers, rest) (sym (none_from bs p (search rules) (c.fits-pages (p / 8))));
     }

@@ -1,10 +1,8 @@
+use Rattle.std.specs.Prelude.{Ok, Some}
 use mathlib.Core.Path.{◌≡◌, sym, ◌∙◌}
 use mathlib.Core.Bool.{false}
 use Prim.Native.Nat.{◌<◌}
 use native.Mathlib.Omega.{arith}
-use lib.ListN.{length-set}
-use Rattle.types.specs.declared.page_id.MaybePageID.TheVariants.{Some}
-use Rattle.types.specs.declared.refusal.Verdict.TheVariants.{Fine}
 use Rattle.alloc.specs.Calls.{next_free}
 use Rattle.alloc.specs.Checks.{state_check}
 use Rattle.alloc.specs.Marks.{is_marked}
@@ -14,14 +12,14 @@ use Rattle.alloc.proofs.StateLaws.{InRange, fine-state, used_le, next_le}
 use borrow.Author.Rules.{rules}
 use Rattle.alloc.proofs.several.try_allocate_each.Goals as goal
 
-pub returns-in-Refused : goal.returns-in-Refused
-returns-in-Refused c =
-    let refused = refused-each c.args.a c.args.places.now c.in-Refused.why (sym c.check_state.ensures.answers ∙ c.in-Refused.is) in
-    record { answers = refused.0; bytes = refused.1 }
+pub returns-in-Err : goal.returns-in-Err
+returns-in-Err c =
+    let refused = refused-each c.args.a c.args.places.now c.in-Err.why (sym c.check_state.ensures.answers ∙ c.in-Err.is) in
+    record { answers = c.refused.ensures.answers ∙ refused.0; bytes = refused.1 }
 
 pub loop-i-init : goal.loop-i-init
 loop-i-init c =
-    let fine : state_check c.args.a ≡ Fine = sym c.check_state.ensures.answers ∙ c.in_default.is in
+    let fine : state_check c.args.a ≡ (Ok tt) = sym c.check_state.ensures.answers ∙ c.in_default.is in
     hand-begun _ _ (search rules, fine-state _ fine)
 
 pub first_free-requires : goal.first_free-requires
@@ -29,20 +27,16 @@ first_free-requires c =
     let this = state_of c.args.a.page_count c.loop-i.pages c.loop-i.used c.loop-i.next in
     let known : InRange this = c.loop-i.invariant.sound.1 in
     record {
-      pages_len = search rules;
       next_le_max_page_count = omega (arith, next_le this known, known.few);
       count_le_max_page_count = known.few;
     }
 
-pub shape_of-places-in_default-first_free : goal.shape_of-places-in_default-first_free
-shape_of-places-in_default-first_free c = c.loop-i.invariant.long
-
 pub returns-in_default-first_free : goal.returns-in_default-first_free
 returns-in_default-first_free c =
-    let fine : state_check c.args.a ≡ Fine = sym c.check_state.ensures.answers ∙ c.in_default.is in
+    let fine : state_check c.args.a ≡ (Ok tt) = sym c.check_state.ensures.answers ∙ c.in_default.is in
     let end = no-page _ _ _ _ _ c.loop-i.invariant fine (sym c.first_free.ensures.answers ∙ c.in_default-first_free.is) in
     record {
-      answers = c.handed.ensures.answers ∙ end.0;
+      answers = c.answered.ensures.answers ∙ end.0;
       bytes = end.1;
     }
 
@@ -54,7 +48,6 @@ mark-requires c =
     let free-here : (c.index-p.result < this.page_count) × (is_marked this.pages c.index-p.result ≡ false) =
     found-free this c.in-Some.page c.index-p.result known page-found c.index-p.ensures.answers in
     record {
-      pages_len = search rules;
       page_lt_max_page_count = omega (arith, free-here.0, known.few);
       page_value = free-here.1;
     }
@@ -74,37 +67,18 @@ page_past-next-requires c =
     found-free this c.in-Some.page c.index-p.result known page-found c.index-p.ensures.answers in
     free-here.0
 
-pub offset_bounds-places-i : goal.offset_bounds-places-i
-offset_bounds-places-i c =
-    omega (arith, c.well_formed, c.loop-i.invariant.long, c.loop-i-test.true)
-
-pub bounds-places-i : goal.bounds-places-i
-bounds-places-i c =
-    c.loop-i-test.true
-
-pub overflow_add-i : goal.overflow_add-i
-overflow_add-i c =
-    omega (arith, c.well_formed, c.loop-i.invariant.long, c.loop-i-test.true)
-
-pub loop-i-smaller : goal.loop-i-smaller
-loop-i-smaller c =
-    rw (length-set c.loop-i.places c.loop-i.i _) (omega (arith, c.loop-i-test.true))
-
 pub loop-i-preserved : goal.loop-i-preserved
 loop-i-preserved c =
     let this = state_of c.args.a.page_count c.loop-i.pages c.loop-i.used c.loop-i.next in
     let page-found : next_free this ≡ Some c.in-Some.page = sym c.first_free.ensures.answers ∙ c.in-Some.is in
-    hand_on _ _ _ _ _ c.loop-i.invariant _ _ _ _ c.loop-i-test.true page-found
+    hand_on _ _ _ _ _ c.loop-i.invariant _ _ _ _ (omega arith) page-found
     c.index-p.ensures.answers c.mark.ensures.bytes c.page_past-next.ensures.answers
-
-pub shape_of-places : goal.shape_of-places
-shape_of-places c = c.loop-i.invariant.long
 
 pub returns : goal.returns
 returns c =
-    let fine : state_check c.args.a ≡ Fine = sym c.check_state.ensures.answers ∙ c.in_default.is in
-    let end = no_place _ _ _ _ _ c.loop-i.invariant fine c.loop-i-test.false in
+    let fine : state_check c.args.a ≡ (Ok tt) = sym c.check_state.ensures.answers ∙ c.in_default.is in
+    let end = no_place _ _ _ _ _ c.loop-i.invariant fine (omega arith) in
     record {
-      answers = c.handed-2.ensures.answers ∙ end.0;
+      answers = c.answered-2.ensures.answers ∙ end.0;
       bytes = end.1;
     }

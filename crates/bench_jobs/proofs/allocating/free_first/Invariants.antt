@@ -1,11 +1,6 @@
 use mathlib.Core.Path.{◌≡◌}
-use Prim.Native.Nat.{◌-◌, ◌≤◌}
-use Rattle.types.specs.Build.{max_page_count}
 use Rattle.bench_jobs.specs.Allocations.{free_first}
 use Rattle.bench_jobs.proofs.allocating.free_first.Given as goal
 
 abbrev pub invariant-loop-i : goal.invariant-loop-i
-invariant-loop-i l = (l.i ≤ max_page_count) × (l.t ≡ free_first l.i l.initial.t)
-
-abbrev pub decreases-loop-i : goal.decreases-loop-i
-decreases-loop-i l = max_page_count - l.i
+invariant-loop-i l = l.t ≡ free_first l.i l.initial.t

@@ -4,11 +4,12 @@ use Prim.Native.Nat.{ℕ, ◌+◌, ◌*◌, ◌%◌}
 use native.Mathlib.Omega.{arith}
 use lib.ListN.{get_or}
 use Rattle.crc.proofs.BraidLaws.{at-far}
+use Rattle.crc.proofs.EntryLaws.{far-entries}
 use Rattle.crc.proofs.braid.look.Goals as goal
 
 pub returns : goal.returns
 returns c = record {
   answers =
       let a = c.args in
-      ap (λ (l : List ℕ). get_or l (a.k * 16 + a.x % 16) 0) c.requires.0 ∙ at-far a.k (a.x % 16) c.requires.1 (omega arith);
+      ap (λ (l : List ℕ). get_or l (a.k * 16 + a.x % 16) 0) far-entries ∙ at-far a.k (a.x % 16) c.requires (omega arith);
 }

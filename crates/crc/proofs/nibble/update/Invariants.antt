@@ -1,13 +1,8 @@
 -- `crc::nibble::update`: the bytes that are left lead to the result. Assumes nothing.
 use mathlib.Core.Path.{◌≡◌}
-use Prim.Native.Nat.{◌≤◌, ◌-◌}
-use lib.ListN.{length, drop}
+use lib.ListN.{drop}
 use Rattle.crc.specs.Register.{updated}
-use Rattle.crc.specs.Tables.{nibble_table}
 use Rattle.crc.proofs.nibble.update.Given as goal
 
-abbrev pub invariant-loop-i : goal.invariant-loop-i
-invariant-loop-i l = (l.t ≡ nibble_table) × (l.i ≤ length l.bytes) × (updated l.x (drop l.i l.bytes) ≡ updated l.c l.bytes)
-
-abbrev pub decreases-loop-i : goal.decreases-loop-i
-decreases-loop-i l = length l.bytes - l.i
+abbrev pub invariant-loop-b : goal.invariant-loop-b
+invariant-loop-b l = updated l.x (drop l.b-index l.bytes) ≡ updated l.c l.bytes

@@ -1,22 +1,20 @@
--- `cursor::checks::good_places`: the places seen are good, so those that are left decide. Assumes nothing.
-use mathlib.Core.Path.{refl}
-use native.Mathlib.Omega.{arith}
+-- `cursor::checks::good_places`: each place with its number is asked for, as the definition asks for it. Assumes nothing.
+use Rattle.std.proofs.Common.{rules, tests, arith, ◌∙◌}
+use Rattle.std.proofs.lemmas.Iterator.{YieldsList-from_slice}
+use Rattle.std.proofs.lemmas.Iterator.Consumers.{YieldsList-from_enumerate}
+use Rattle.std.proofs.lemmas.Iterator.Search.{all_from_yields_List}
+use Rattle.types.specs.Build.{file_count}
 use Rattle.cursor.specs.Checks.{good_places}
-use Rattle.cursor.proofs.CheckLaws.{places-none, place-bad, place-good}
+use Rattle.cursor.proofs.CheckLaws.{NumberedGood, numbered}
 use Rattle.cursor.proofs.checks.good_places.Goals as goal
 
-pub loop-i-init : goal.loop-i-init
-unfolding good_places
-loop-i-init c = (omega arith, refl)
-
-pub returns-then-not-good_place : goal.returns-then-not-good_place
-returns-then-not-good_place c = record { answers = place-bad _ _ _ _ c.loop-i.invariant.1 c.loop-i-test.true _ c.good_place.ensures.answers (c.if-not-good_place.true) }
-
-pub loop-i-preserved : goal.loop-i-preserved
-loop-i-preserved c = (
-  omega arith,
-  place-good _ _ _ _ c.loop-i.invariant.1 c.loop-i-test.true _ c.good_place.ensures.answers (c.if-not-good_place.false),
-)
-
 pub returns : goal.returns
-returns c = record { answers = places-none _ _ _ _ c.loop-i.invariant.1 c.loop-i-test.false }
+unfolding good_places
+returns c =
+    let ends = c.args.ends.now in
+    let places = c.args.places in
+    record {
+      answers =
+          all_from_yields_List (NumberedGood ends) _ _ c.all.result c.all.ensures.ran (YieldsList-from_enumerate (YieldsList-from_slice places (cc)) (cc)) (λ x b q k. search (rules, tests))
+          ∙ numbered ends places file_count 0 (omega arith);
+    }

@@ -6,5 +6,5 @@ use Rattle.cursor.proofs.runs.start_of.Goals as goal
 pub returns-then-i-eq0 : goal.returns-then-i-eq0
 returns-then-i-eq0 c = record { answers = start_first _ _ c.if-i-eq0.true }
 
-pub returns : goal.returns
-returns c = record { answers = c.end_of.ensures.answers ∙ start-later _ _ c.if-i-eq0.false }
+pub returns-else-i-eq0 : goal.returns-else-i-eq0
+returns-else-i-eq0 c = record { answers = c.end_of.ensures.answers ∙ start-later _ _ c.if-i-eq0.false }

@@ -10,7 +10,7 @@ use Rattle.digits.proofs.hex.encode.Goals as goal
 pub loop-i-init : goal.loop-i-init
 loop-i-init c =
     let a = c.args in
-    (omega arith, (c.min-n.ensures.answers, (refl, put-start (hex_of a.bytes.now) a.out.now)))
+    (omega arith, (c.min-n.ensures, (refl, put-start (hex_of a.bytes.now) a.out.now)))
 
 pub bounds-out-i-in-loop-i : goal.bounds-out-i-in-loop-i
 bounds-out-i-in-loop-i c = simp length-set (omega arith)
@@ -36,6 +36,6 @@ returns c =
     let a = c.args in
     let n = c.min-n.result in
     record {
-      answers = rw c.min-n.ensures.answers;
+      answers = rw c.min-n.ensures;
       bytes = c.loop-i.invariant.1.1.1 ∙ encode-end a.bytes.now a.out.now c.loop-i.i (omega arith);
     }

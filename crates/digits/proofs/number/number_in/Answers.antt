@@ -1,40 +1,28 @@
--- `digits::number::number_in`: the number read on from i is the word's. Assumes nothing.
-use mathlib.Core.Path.{refl, ◌∙◌}
-use Rattle.digits.specs.declared.number.Number.TheVariants.{Value, NoNumber}
-use Rattle.digits.proofs.NumberLaws.{read-turn, read-stops, read_done, number-empty, number_read}
+-- `digits::number::number_in`: the number read on from an index is the word's. Assumes nothing.
+use Rattle.std.specs.Prelude.{Some, None}
+use mathlib.Core.Path.{◌∙◌}
+use Rattle.digits.proofs.NumberLaws.{read-turn, read-stops, read_done, number_read}
 use Rattle.digits.proofs.number.number_in.Goals as goal
 
-pub returns-then-word-eq0 : goal.returns-then-word-eq0
-returns-then-word-eq0 c =
+pub returns-in_err-n : goal.returns-in_err-n
+returns-in_err-n c =
     record {
       answers =
           let a = c.args in
-          number-empty a.base a.most a.word.now c.if-word-eq0.true;
+          rw c.from_residual.ensures (number_read a.base a.most a.word.now None (cc)
+          (read-stops a.base a.most a.word.now c.loop-d.d-index c.loop-d.n c.loop-d-test.true c.with_digit.result c.with_digit.ensures.answers c.in_err-n.was
+          ∙ c.loop-d.invariant));
     }
 
-pub loop-i-init : goal.loop-i-init
-loop-i-init c = refl
-
-pub returns-in_default : goal.returns-in_default
-returns-in_default c =
-    record {
-      answers =
-          let a = c.args in
-          number_read a.base a.most a.word.now NoNumber c.if-word-eq0.false
-          (read-stops a.base a.most a.word.now c.loop-i.i c.loop-i.n c.loop-i-test.true c.digit_in.result c.with_digit.result c.digit_in.ensures.answers c.with_digit.ensures.answers c.in_default.is
-          ∙ c.loop-i.invariant);
-    }
-
-pub loop-i-preserved : goal.loop-i-preserved
-loop-i-preserved c =
+pub loop-d-preserved : goal.loop-d-preserved
+loop-d-preserved c =
     let a = c.args in
-    read-turn a.base a.most a.word.now c.loop-i.i c.loop-i.n c.loop-i-test.true c.digit_in.result c.with_digit.result (Value c.in-Value.next) c.digit_in.ensures.answers
-    c.with_digit.ensures.answers c.in-Value.is ∙ c.loop-i.invariant
+    read-turn a.base a.most a.word.now c.loop-d.d-index c.loop-d.n c.loop-d-test.true c.with_digit.result (Some c.in_ok-n.n) c.with_digit.ensures.answers c.in_ok-n.was ∙ c.loop-d.invariant
 
 pub returns : goal.returns
 returns c =
     record {
       answers =
           let a = c.args in
-          number_read a.base a.most a.word.now (Value c.loop-i.n) c.if-word-eq0.false (read_done a.base a.most a.word.now c.loop-i.i c.loop-i.n c.loop-i-test.false ∙ c.loop-i.invariant);
+          number_read a.base a.most a.word.now (Some c.loop-d.n) (cc) (read_done a.base a.most a.word.now c.loop-d.d-index c.loop-d.n c.loop-d-test.false ∙ c.loop-d.invariant);
     }

@@ -1,13 +1,9 @@
--- `digits::number::number_in`: the number read on from i is the word's. Assumes nothing.
+-- `digits::number::number_in`: the number read on from an index is the word's. Assumes nothing.
+use Rattle.std.specs.Prelude.{Some}
 use mathlib.Core.Path.{◌≡◌}
-use Prim.Native.Nat.{◌-◌}
-use lib.ListN.{length, drop}
+use lib.ListN.{drop}
 use Rattle.digits.specs.Numbers.{read_digits}
-use Rattle.digits.specs.declared.number.Number.TheVariants.{Value}
 use Rattle.digits.proofs.number.number_in.Given as goal
 
-abbrev pub invariant-loop-i : goal.invariant-loop-i
-invariant-loop-i l = read_digits l.base l.most (Value l.n) (drop l.i l.word) ≡ read_digits l.base l.most (Value 0) l.word
-
-abbrev pub decreases-loop-i : goal.decreases-loop-i
-decreases-loop-i l = length l.word - l.i
+abbrev pub invariant-loop-d : goal.invariant-loop-d
+invariant-loop-d l = read_digits l.base l.most (Some l.n) (drop l.d-index l.word) ≡ read_digits l.base l.most (Some 0) l.word

@@ -1,34 +1,37 @@
 -- `page::walk::walk_end`: the walk from `at` ends where the whole one does. Assumes nothing.
-use mathlib.Core.Path.{refl, sym, ap, ◌∙◌}
+use mathlib.Core.Path.{◌≡◌, sym, ap, ◌∙◌}
 use native.Mathlib.Omega.{arith}
+use Rattle.std.specs.Prelude.{Ok, Err, Some, None}
+use Rattle.std.proofs.lemmas.Grind.{common_steps}
+use Rattle.types.specs.Checks.{corruption}
+use Rattle.page.specs.Chunks.{chunk_at}
 use Rattle.page.specs.Walks.{Walked}
 use Rattle.page.proofs.ChunkLaws.{next_up}
 use Rattle.page.proofs.WalkLaws.{walk-end, walk-bad, walk-chunk}
 use Rattle.page.proofs.walk.walk_end.Goals as goal
 
-pub loop-next-init : goal.loop-next-init
-loop-next-init c = refl
-
-pub returns-in-End : goal.returns-in-End
-returns-in-End c =
+pub returns-in_default : goal.returns-in_default
+returns-in_default c =
     record {
       answers =
-          sym (ap (λ (w : Walked). w.ending) (walk-end c.args.page.now c.loop-next.at (sym c.chunk_at.ensures.answers ∙ c.in-End.is))) ∙ c.loop-next.invariant;
+          let found : chunk_at c.args.page.now c.loop-chunk.at ≡ Ok None = sym c.chunk_at.ensures.answers ∙ (c.in_ok-chunk.was ∙ ap Ok c.in_default.is) in
+          sym (ap (λ (w : Walked). w.ending) (walk-end c.args.page.now c.loop-chunk.at found)) ∙ c.loop-chunk.invariant;
     }
 
-pub returns-in-Corrupted : goal.returns-in-Corrupted
-returns-in-Corrupted c =
-    record {
-      answers =
-          sym (ap (λ (w : Walked). w.ending) (walk-bad c.args.page.now c.loop-next.at (sym c.chunk_at.ensures.answers ∙ c.in-Corrupted.is))) ∙ c.loop-next.invariant;
-    }
+pub returns-in_err-chunk : goal.returns-in_err-chunk
+returns-in_err-chunk c =
+    let found : chunk_at c.args.page.now c.loop-chunk.at ≡ Err corruption = sym c.chunk_at.ensures.answers ∙ c.in_err-chunk.was in
+    let ends = sym (ap (λ (w : Walked). w.ending) (walk-bad c.args.page.now c.loop-chunk.at found)) ∙ c.loop-chunk.invariant in
+    record { answers = grind (arith, common_steps, ends) }
 
-pub loop-next-smaller : goal.loop-next-smaller
-loop-next-smaller c =
-    let found = sym c.chunk_at.ensures.answers ∙ c.in-Chunk.is in
-    omega (arith, next_up c.args.page.now c.loop-next.at c.in-Chunk.len c.in-Chunk.crc c.in-Chunk.next found)
+pub loop-chunk-smaller : goal.loop-chunk-smaller
+loop-chunk-smaller c =
+    let chunk = c.in-Some.chunk in
+    let found : chunk_at c.args.page.now c.loop-chunk.at ≡ Ok (Some chunk) = sym c.chunk_at.ensures.answers ∙ (c.in_ok-chunk.was ∙ ap Ok c.in-Some.is) in
+    omega (arith, next_up c.args.page.now c.loop-chunk.at chunk.len chunk.crc chunk.next found)
 
-pub loop-next-preserved : goal.loop-next-preserved
-loop-next-preserved c =
-    let found = sym c.chunk_at.ensures.answers ∙ c.in-Chunk.is in
-    sym (ap (λ (w : Walked). w.ending) (walk-chunk c.args.page.now c.loop-next.at c.in-Chunk.len c.in-Chunk.crc c.in-Chunk.next found)) ∙ c.loop-next.invariant
+pub loop-chunk-preserved : goal.loop-chunk-preserved
+loop-chunk-preserved c =
+    let chunk = c.in-Some.chunk in
+    let found : chunk_at c.args.page.now c.loop-chunk.at ≡ Ok (Some chunk) = sym c.chunk_at.ensures.answers ∙ (c.in_ok-chunk.was ∙ ap Ok c.in-Some.is) in
+    sym (ap (λ (w : Walked). w.ending) (walk-chunk c.args.page.now c.loop-chunk.at chunk.len chunk.crc chunk.next found)) ∙ c.loop-chunk.invariant

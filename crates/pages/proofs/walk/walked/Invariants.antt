@@ -3,4 +3,4 @@ use Rattle.std.proofs.Common.{◌*◌, ◌≤◌}
 use Rattle.pages.proofs.walk.walked.Given as goal
 
 abbrev pub invariant-loop : goal.invariant-loop
-invariant-loop l = (l.chunks ≤ l.counter) × (l.bytes ≤ l.counter * 4096)
+invariant-loop l = (l.walk.chunks ≤ l.counter) × (l.walk.bytes ≤ l.counter * 4096)

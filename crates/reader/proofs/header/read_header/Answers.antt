@@ -1,32 +1,9 @@
 use mathlib.Core.Path.{sym, ◌∙◌}
-use Rattle.reader.proofs.OpenLaws.{header_refused, header-wrong, header-right}
+use Rattle.reader.proofs.OpenLaws.{header-passed, header-right}
 use Rattle.reader.proofs.header.read_header.Goals as goal
 
-pub returns-in-Refused : goal.returns-in-Refused
-returns-in-Refused c =
+pub returns-clause-bytes : goal.returns-clause-bytes
+returns-clause-bytes c =
     let a = c.args in
-    let all = header_refused a.flash.now a.magic a.page a.header.now c.in-Refused.why (sym c.check_open.ensures.answers ∙ c.in-Refused.is) in
-    record {
-      answers = all.0;
-      bytes = all.1;
-    }
-
-pub returns-then-not-page_header_fine : goal.returns-then-not-page_header_fine
-returns-then-not-page_header_fine c =
-    let a = c.args in
-    let all = header-wrong a.flash.now a.magic a.page a.header.now (sym c.check_open.ensures.answers ∙ c.in_default.is)
-    (rw c.page_of-bytes.ensures.answers at (sym c.page_header_fine.ensures.answers ∙ c.if-not-page_header_fine.true)) in
-    record {
-      answers = all.0;
-      bytes = all.1;
-    }
-
-pub returns : goal.returns
-returns c =
-    let a = c.args in
-    let k = header-right a.flash.now a.magic a.page a.header.now (sym c.check_open.ensures.answers ∙ c.in_default.is)
-    (rw c.page_of-bytes.ensures.answers at (sym c.page_header_fine.ensures.answers ∙ c.if-not-page_header_fine.false)) in
-    record {
-      answers = k.0;
-      bytes = c.put.ensures.bytes ∙ rw (c.header_of.ensures.answers, c.page_of-bytes.ensures.answers) k.1;
-    }
+    let passed = header-passed a.flash.now a.magic a.page a.header.now (sym c.check_page_header.ensures.answers ∙ c.in_ok-check_page_header.was) in
+    c.put.ensures.bytes ∙ rw (c.header_of.ensures.answers, c.page_of.ensures.answers) (header-right a.flash.now a.magic a.page a.header.now passed.0 passed.1).1

@@ -1,16 +1,9 @@
 -- Each operation is made if it is due, and together they are the chunk's (`chunk-ran`); the requirement says that they lie on the flash.
 -- Assumes nothing.
-use mathlib.Core.Path.{◌≡◌, sym, ◌∙◌}
-use lib.ListN.{length}
+use mathlib.Core.Path.{◌∙◌}
 use Rattle.types.specs.Build.{erase_value}
 use Rattle.writer.proofs.CommitLaws.{chunk-ran}
-use borrow.Author.Rules.{rules}
 use Rattle.writer.proofs.commit.finish_chunk.Goals as goal
-
-pub slice_bounds-store_if-end : goal.slice_bounds-store_if-end
-slice_bounds-store_if-end c =
-    let four : length c.args.w.buf ≡ 4 = search rules in
-    sym four
 
 pub returns : goal.returns
 returns c =

@@ -1,14 +1,8 @@
 -- The header's bytes stand at the start of their room, and the erase and the store of them are run (`header-ran`). Assumes nothing.
 use mathlib.Core.Path.{refl}
-use native.Mathlib.Omega.{arith}
-use lib.ListN.{length-take}
 use Rattle.types.specs.Build.{erase_value}
-use Rattle.writer.proofs.HeadingLaws.{length-room, header-ran}
+use Rattle.writer.proofs.HeadingLaws.{header-ran}
 use Rattle.writer.proofs.heading.head_page.Goals as goal
-
-pub slice_bounds-store_if-end : goal.slice_bounds-store_if-end
-slice_bounds-store_if-end c =
-    rw (c.header_room-room.ensures.answers, length-take, length-room) (omega (arith, c.requires.header_len_bound))
 
 pub returns : goal.returns
 returns c =

@@ -1,32 +1,20 @@
 -- The erase, the group, the whole groups and the chunk's end are run one after the other (`taking-ran`); the requirement says that
 -- they lie on the flash. Assumes nothing.
 use mathlib.Core.Path.{◌∙◌}
-use native.Mathlib.Omega.{arith}
 use lib.ListN.{length}
 use Rattle.types.specs.Build.{erase_value}
 use Rattle.writer.proofs.LiesOnLaws.{closing-lies}
-use Rattle.writer.proofs.WriteLaws.{taking-ran, grown-fits}
+use Rattle.writer.proofs.WriteLaws.{taking-ran}
 use Rattle.writer.proofs.write.take_bytes.Goals as goal
-
-pub overflow_add-w : goal.overflow_add-w
-overflow_add-w c =
-    omega (arith, c.requires.offset_le_page_size, c.requires.bytes_bound, c.to_group-first.ensures.answers)
-
-pub overflow_add-from-3 : goal.overflow_add-from-3
-overflow_add-from-3 c =
-    omega (arith, c.requires.offset_le_page_size, c.requires.bytes_bound, c.to_group-first.ensures.answers)
 
 pub finish_chunk-d-requires : goal.finish_chunk-d-requires
 finish_chunk-d-requires c =
     let a = c.args in
-    let fits = grown-fits a.w a.next a.bytes.now c.requires.next_value c.requires.offset_le_page_size c.requires.bytes_bound in
     let long = c.store_if-c.auto.flash ∙ c.store_if-b.auto.flash ∙ c.erase_if-a.auto.flash in
-    let lie = closing-lies erase_value (length c.store_if-c.new.flash) (length a.flash.now) a.w a.next a.bytes.now
-    c.requires.bytes_value c.requires.next_value long in
     record {
-      offset_le_page_size = fits.0;
-      pending_le_max_chunk_size = fits.1;
-      w_value = lie;
+      small = c.requires.small;
+      w_value = closing-lies erase_value (length c.store_if-c.new.flash) (length a.flash.now) a.w a.next a.bytes.now
+          c.requires.bytes_value c.requires.next_value long;
     }
 
 pub shape_of-flash : goal.shape_of-flash

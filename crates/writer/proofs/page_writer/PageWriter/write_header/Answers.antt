@@ -1,29 +1,19 @@
 -- A refusal of the checks is handed back; else the erase and the store are run. That they lie on the flash follows from the checks
 -- (`header-lies`). Assumes nothing.
+use Rattle.std.specs.Prelude.{Ok}
 use mathlib.Core.Path.{◌≡◌, sym, ◌∙◌}
 use lib.ListN.{length}
 use Rattle.types.specs.Build.{erase_value}
-use Rattle.types.specs.declared.refusal.Verdict.TheVariants.{Fine}
 use Rattle.writer.specs.Duties.{heading_duty}
 use Rattle.writer.specs.Checks.{heading_check}
 use Rattle.writer.proofs.CheckLaws.{heading-checked}
 use Rattle.writer.proofs.LiesOnLaws.{header-lies}
-use Rattle.writer.proofs.OutcomeLaws.{ends-refused, ends-ran}
+use Rattle.writer.proofs.OutcomeLaws.{ends-ran}
 use Rattle.writer.proofs.page_writer.PageWriter.write_header.Goals as goal
-
-pub returns-in-Refused : goal.returns-in-Refused
-returns-in-Refused c =
-    let a = c.args in
-    let all = ends-refused (heading_duty erase_value a.flash.now a.self a.magic a.header.now) a.self a.left a.flash.now
-    c.in-Refused.why (sym c.check_heading.ensures.answers ∙ c.in-Refused.is) in
-    record {
-      answers = all.0;
-      bytes = all.1;
-    }
 
 pub head_page-stores-requires : goal.head_page-stores-requires
 head_page-stores-requires c =
-    let fine : heading_check (length c.args.flash.now) c.args.self (length c.args.header.now) ≡ Fine = sym c.check_heading.ensures.answers ∙ c.in_default.is in
+    let fine : heading_check (length c.args.flash.now) c.args.self (length c.args.header.now) ≡ (Ok tt) = sym c.check_heading.ensures.answers ∙ c.in_default.is in
     let a = c.args in
     let k = heading-checked _ _ _ fine in
     record {
@@ -33,7 +23,7 @@ head_page-stores-requires c =
 
 pub returns : goal.returns
 returns c =
-    let fine : heading_check (length c.args.flash.now) c.args.self (length c.args.header.now) ≡ Fine = sym c.check_heading.ensures.answers ∙ c.in_default.is in
+    let fine : heading_check (length c.args.flash.now) c.args.self (length c.args.header.now) ≡ (Ok tt) = sym c.check_heading.ensures.answers ∙ c.in_default.is in
     let a = c.args in
     let duty = heading_duty erase_value a.flash.now a.self a.magic a.header.now in
     let q = ends-ran duty a.self a.left a.flash.now c.head_page-stores.result c.head_page-stores.new.flash fine

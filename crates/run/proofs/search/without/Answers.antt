@@ -1,5 +1,0 @@
--- `run::search::without` tells the three heads apart as its definition does. Assumes nothing.
-use Rattle.run.proofs.search.without.Goals as goal
-
-pub returns-in-Refused : goal.returns-in-Refused
-returns-in-Refused c = record { answers = rw c.in-Refused.is }

@@ -1,8 +1,0 @@
--- `slices::field::join16` counts the second byte 256 times, as `word` does. Assumes nothing.
-use native.Mathlib.Omega.{arith}
-use Rattle.types.specs.Bytes.{word}
-use Rattle.slices.proofs.field.join16.Goals as goal
-
-pub returns : goal.returns
-unfolding word
-returns c = record { answers = omega arith }
