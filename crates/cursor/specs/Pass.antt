@@ -38,12 +38,6 @@ look_by Less r = Ok (look.Below r)
 look_by Equal r = Ok (look.Level r)
 look_by Greater r = Ok look.Above
 
--- a head that is no record ends the run, or refuses it
-abbrev pub look_without : Head → Result Look Refusal
-look_without (Ok None) = Ok look.Gone
-look_without (Ok (Some r)) = Ok look.Gone
-look_without (Err why) = Err why
-
 -- a record past the upper bound ends the run; any other is held against the lowest key
 unfoldable pub look_head : List ℕ → Bound → List ℕ → Lowest → List ℕ → Head → Result Look Refusal
 look_head run bound upper lowest low (Ok None) = Ok look.Gone
