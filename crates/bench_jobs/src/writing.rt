@@ -43,11 +43,10 @@ fn write_begun(flash: &mut [u8], magic: u32, page: u16, header: &[u8], left: usi
     if let Err(_) = opened.answer {
         return after_header(opened);
     }
-    after_header(
-        opened
-            .writer
-            .write_header(flash, magic, header, opened.left),
-    )
+    let headed = opened
+        .writer
+        .write_header(flash, magic, header, opened.left);
+    after_header(headed)
 }
 
 // Behind a write: one that took nothing, and a refused one, is the last.

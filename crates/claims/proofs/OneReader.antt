@@ -9,7 +9,7 @@ use Rattle.reader.proofs.page_reader.PageReader.dehydrate.Reads.{Learnt as PageR
 use Rattle.reader.proofs.page_reader.PageReader.rehydrate_from.Reads.{Learnt as PageReader-rehydrate-from}
 use Rattle.reader.proofs.page_reader.PageReader.page_id.Reads.{Learnt as PageReader-page-id}
 use Rattle.reader.proofs.dehydrated.DehydratedPageReaderFromPageReader.from.Reads.{Learnt as DehydratedPageReaderFromPageReader-from}
-use Rattle.reader.proofs.dehydrated.PageReaderFromDehydratedPageReader.from.Reads.{Learnt as PageReaderFromDehydratedPageReader-from}
+use Rattle.reader.proofs.answers.EndTest.at_end.Reads.{Learnt as EndTest-at-end}
 use Rattle.claims.specs.Outcomes.{OneOutcome, beside}
 use Rattle.claims.proofs.OutcomeLaws.{one, two}
 
@@ -43,5 +43,5 @@ one-PageReader-page-id k a r r' e e' p q = one p q
 pub one-DehydratedPageReaderFromPageReader-from : OneOutcome DehydratedPageReaderFromPageReader-from (λ r e. r)
 one-DehydratedPageReaderFromPageReader-from k a r r' e e' p q = one p q
 
-pub one-PageReaderFromDehydratedPageReader-from : OneOutcome PageReaderFromDehydratedPageReader-from (λ r e. r)
-one-PageReaderFromDehydratedPageReader-from k a r r' e e' p q = one p q
+pub one-EndTest-at-end : OneOutcome EndTest-at-end (λ r e. r)
+one-EndTest-at-end k a r r' e e' p q = one p q

@@ -3,6 +3,13 @@ use mir.Syntax.{w64}
 use mir.Val.{Fits}
 use Prim.Native.Nat.{ℕ}
 use Rattle.script.proofs.space.space.Reads.{Learnt as space}
+use Rattle.script.proofs.space.script_space.Reads.{Learnt as script-space}
+use Rattle.script.proofs.space.line_space.Reads.{Learnt as line-space}
+use Rattle.script.proofs.space.page_space.Reads.{Learnt as page-space}
+use Rattle.script.proofs.space.flash_space.Reads.{Learnt as flash-space}
+use Rattle.script.proofs.space.runs_space.Reads.{Learnt as runs-space}
+use Rattle.script.proofs.space.all_runs_space.Reads.{Learnt as all-runs-space}
+use Rattle.script.proofs.space.entry_space.Reads.{Learnt as entry-space}
 use Rattle.script.proofs.args.number_at.Reads.{Learnt as number-at}
 use Rattle.script.proofs.args.number_to.Reads.{Learnt as number-to}
 use Rattle.script.proofs.args.page_at.Reads.{Learnt as page-at}
@@ -19,6 +26,27 @@ use Rattle.claims.proofs.OutcomeLaws.{one, two}
 
 pub one-space : (N : ℕ) (F : Fits w64 N) → OneOutcome (space N F) (λ r e. r)
 one-space N F k a r r' e e' p q = one p.0 q.0
+
+pub one-script-space : OneOutcome script-space (λ r e. r)
+one-script-space k a r r' e e' p q = one p.0 q.0
+
+pub one-line-space : OneOutcome line-space (λ r e. r)
+one-line-space k a r r' e e' p q = one p.0 q.0
+
+pub one-page-space : OneOutcome page-space (λ r e. r)
+one-page-space k a r r' e e' p q = one p.0 q.0
+
+pub one-flash-space : OneOutcome flash-space (λ r e. r)
+one-flash-space k a r r' e e' p q = one p.0 q.0
+
+pub one-runs-space : OneOutcome runs-space (λ r e. r)
+one-runs-space k a r r' e e' p q = one p.0 q.0
+
+pub one-all-runs-space : OneOutcome all-runs-space (λ r e. r)
+one-all-runs-space k a r r' e e' p q = one p.0 q.0
+
+pub one-entry-space : OneOutcome entry-space (λ r e. r)
+one-entry-space k a r r' e e' p q = one p.0 q.0
 
 pub one-end-from : OneOutcome end-from (λ r e. r)
 one-end-from k a r r' e e' p q = one p q

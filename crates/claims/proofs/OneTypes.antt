@@ -19,6 +19,8 @@ use Rattle.types.proofs.page_id.OptionPageID.is_none.Reads.{Learnt as OptionPage
 use Rattle.types.proofs.refusal.Refusal.number.Reads.{Learnt as Refusal-number}
 use Rattle.types.proofs.refusal.RefusalFromCorrupted.from.Reads.{Learnt as RefusalFromCorrupted-from}
 use Rattle.types.proofs.answers.ResultRefusalAnswer.number.Reads.{Learnt as ResultRefusalAnswer-number}
+use Rattle.types.proofs.answers.ResultCorruptedAnswer.number.Reads.{Learnt as ResultCorruptedAnswer-number}
+use Rattle.types.proofs.answers.OptionPageIDAnswer.number.Reads.{Learnt as OptionPageIDAnswer-number}
 use Rattle.claims.specs.Outcomes.{OneOutcome}
 use Rattle.claims.proofs.OutcomeLaws.{one}
 
@@ -68,3 +70,9 @@ one-RefusalFromCorrupted-from k a r r' e e' p q = one p q
 
 pub one-ResultRefusalAnswer-number : (T : RattleType) (L : Laws T) (d : Dict) → OneOutcome (ResultRefusalAnswer-number T L d) (λ r e. r)
 one-ResultRefusalAnswer-number T L d k a r r' e e' p q = one p q
+
+pub one-ResultCorruptedAnswer-number : (T : RattleType) (L : Laws T) (d : Dict) → OneOutcome (ResultCorruptedAnswer-number T L d) (λ r e. r)
+one-ResultCorruptedAnswer-number T L d k a r r' e e' p q = one p q
+
+pub one-OptionPageIDAnswer-number : OneOutcome OptionPageIDAnswer-number (λ r e. r)
+one-OptionPageIDAnswer-number k a r r' e e' p q = one p q

@@ -42,8 +42,8 @@ pub fn update(c: u32, bytes: &[u8]) -> u32
     ensures answers { result ≡ updated c bytes.now }
 {
     let mut x = c;
-    for b in bytes {
-        x = take(x, *b);
+    for i in 0..bytes.len() {
+        x = take(x, bytes[i]);
     }
     x
 }

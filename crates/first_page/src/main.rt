@@ -3,10 +3,9 @@
 #![tactic(auto)]
 
 use reader::page_reader::PageReader;
-use script::space::space;
+use script::space::page_space;
 use slices::part::part_of;
 use types::answers::Answer;
-use types::config::PAGE_SIZE;
 use types::page_id::PageID;
 use types::refusal::Refusal;
 use writer::page_writer::PageWriter;
@@ -50,7 +49,7 @@ fn read_page(rt: &impl Print, flash: &[u8]) {
 }
 
 fn main(rt: HostRuntime) {
-    let mut flash = space::<PAGE_SIZE>(0);
+    let mut flash = page_space();
     write_page(&rt, &mut flash);
     read_page(&rt, &flash);
 }

@@ -49,5 +49,10 @@ pub fn value<'a>(reader: RunReader<'a>, found: Record) -> &'a [u8]
 pub fn read_at(run: &[u8], at: usize) -> Step
     ensures answers { result ≡ step_at run.now at }
 {
-    step_at(run, at)
+    let mut reader = RunReader { run, at };
+    let head = next(&mut reader);
+    Step {
+        head,
+        at: reader.at,
+    }
 }

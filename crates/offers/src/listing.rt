@@ -7,7 +7,7 @@ use cursor::place::Cursor;
 use desk::arguments::ARGUMENT_ROOM;
 use desk::say;
 use desk::say::{Said, number_on, text_on};
-use script::space::{ENTRY_ROOM, LINE_ROOM, space};
+use script::space::{entry_space, line_space};
 use slices::part::part_of;
 use std::env::Env;
 use std::io;
@@ -42,7 +42,7 @@ impl Listing<'_> {
         };
         let mut word = [0; ARGUMENT_ROOM];
         let n = self.rt.arg(*name, &mut word).unwrap_or(0);
-        let mut shown = space::<LINE_ROOM>(0);
+        let mut shown = line_space();
         let m = put_all(&mut shown, 0, &word[..n], self.asked.utf8);
         text_on(self.rt, part_of(&shown, 0, m));
     }
@@ -70,7 +70,7 @@ impl Listing<'_> {
 
     // A line, but for the name of the run that decided and the line's end where they follow.
     fn print_entry(self, key: &[u8], value: &[u8], last: u8) -> io::Result<()> {
-        let mut out = space::<ENTRY_ROOM>(0);
+        let mut out = entry_space();
         let n = line_of(key, value, self.asked.utf8, last, &mut out);
         self.rt.write_all(part_of(&out, 0, n))
     }

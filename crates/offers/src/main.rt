@@ -14,11 +14,11 @@ use choice::Asked;
 use desk::say;
 use desk::say::Said;
 use places::Runs;
-use script::space::{ALL_RUNS_ROOM, space};
+use script::space::all_runs_space;
 use types::config::FILE_COUNT;
 
 fn list(rt: &HostRuntime, asked: &Asked) -> Result<(), Said> {
-    let mut bytes = space::<ALL_RUNS_ROOM>(0);
+    let mut bytes = all_runs_space();
     let mut ends = [0; FILE_COUNT];
     files::read_all(rt, asked.runs(), &mut bytes, &mut ends)?;
     let runs = Runs::first(&bytes, &ends, asked.runs().len());

@@ -2,14 +2,26 @@
 use mathlib.Core.Path.{◌≡◌, refl}
 use Prim.Native.Nat.{ℕ}
 use Rattle.std.specs.Prelude.{Ok, Err, Some, None}
-use Rattle.types.specs.Answers.{size_or}
+use Rattle.types.specs.Answers.{corrupted_told, size_or}
 use Rattle.types.specs.Checks.{corruption}
 use Rattle.types.specs.Refusals.{number_of}
 use Rattle.types.specs.declared.refusal.Refusal.TheVariants as row
+use Rattle.types.specs.declared.refusal.Corrupted.{Corrupted}
+use Rattle.std.specs.declared.result.Result.{Result}
 use Rattle.page.specs.Answers.{step_told, ending_told}
+use Rattle.page.specs.Chunks.{Step}
 use Rattle.page.specs.declared.chunk.ChunkAt.{ChunkAt}
 
--- ---- the number
+-- ---- the number: what `Answer::number` answers
+
+pub step_told-number : (s : Step) → (step_told s).number ≡ corrupted_told s
+step_told-number (Ok (Some chunk)) = refl
+step_told-number (Ok None) = refl
+step_told-number (Err w) = refl
+
+pub ending_told-number : (r : Result ℕ Corrupted) → (ending_told r).number ≡ corrupted_told r
+ending_told-number (Ok at) = refl
+ending_told-number (Err w) = refl
 
 pub step_told-chunk : (chunk : ChunkAt) → (step_told (Ok (Some chunk))).number ≡ 0
 step_told-chunk chunk = refl

@@ -1,15 +1,15 @@
 -- Bytes that read as erased: found one after the other, the same as a blank list, and no start of a chunk. Assumes nothing.
-use Rattle.std.specs.List.{list_all}
-use Rattle.std.specs.Prelude.{Ok, None, ◌&&◌}
+use Rattle.std.specs.Prelude.{Ok, None}
 use mathlib.Core.Path.{◌≡◌, refl, sym, ap, ap₂, ◌∙◌}
-use mathlib.Core.Bool.{Bool, true}
+use mathlib.Core.Bool.{true, false}
 use mathlib.Core.List.{List, [], ◌∷◌}
-use Prim.Native.Nat.{ℕ, zero, suc, ◌-◌, ◌≤◌}
+use Prim.Native.Nat.{ℕ, zero, suc, ◌+◌, ◌-◌, ◌≤◌, ◌<◌}
+use native.Mathlib.Numerals.{add-one}
 use native.Mathlib.Omega.{arith}
 use lib.Dec.{eqb}
-use lib.ListN.{length, take, drop, length-drop}
-use lib.Seq.{length-take-le}
-use borrow.Author.Tests.{eqb-true, eq-eqb}
+use lib.ListN.{length, get_or, take, drop, length-drop}
+use lib.Seq.{drop-cons, drop-length, length-take-le}
+use borrow.Author.Tests.{eqb-true, eq-eqb, ne_eqb}
 use Rattle.types.specs.Build.{erase_value}
 use Rattle.types.specs.Bytes.{word}
 use Rattle.types.proofs.TestLaws.{both_true}
@@ -21,13 +21,20 @@ use Rattle.page.specs.Walks.{all_erased}
 use Rattle.page.proofs.ChunkLaws.{chunk-unmarked}
 use Rattle.page.proofs.WorkedMark.{erased-word}
 
--- ---- erased bytes as a list
+module _ (e : ℕ) (bytes : List ℕ) (i : ℕ) where
+  pub erased-not : i < length bytes → (get_or bytes i 0 ≡ e → ⊥) → all_erased e (drop i bytes) ≡ false
+  unfolding all_erased
+  erased-not h n = rw (drop-cons bytes i 0, ne_eqb (get_or bytes i 0) e n)
 
--- as std's method asks each byte
-pub all-erased : (e : ℕ) (bytes : List ℕ) → list_all (λ b. eqb b e) bytes ≡ all_erased e bytes
-unfolding all_erased
-all-erased e [] = refl
-all-erased e (b ∷ bytes) = ap (λ (t : Bool). eqb b e && t) (all-erased e bytes)
+  pub erased-one : i < length bytes → get_or bytes i 0 ≡ e → all_erased e (drop i bytes) ≡ all_erased e (drop (i + 1) bytes)
+  unfolding all_erased
+  erased-one h q = rw (drop-cons bytes i 0, eq-eqb (get_or bytes i 0) e q, add-one)
+
+  pub erased-end : i ≡ length bytes → all_erased e (drop i bytes) ≡ true
+  unfolding all_erased
+  erased-end q = rw (q, drop-length)
+
+-- ---- erased bytes as a list
 
 pub erased-blank : (e : ℕ) (bytes : List ℕ) → all_erased e bytes ≡ true → bytes ≡ blank e (length bytes)
 unfolding all_erased

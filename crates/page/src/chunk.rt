@@ -79,8 +79,9 @@ pub fn payload_at(page: &[u8], at: usize, len: usize) -> &[u8]
     part_of(part_of(page, at, page.len()), CHUNK_HEADER_SIZE, len)
 }
 
-// What stands at an offset, by the chunk's header and then its sum.
+// What stands at an offset, by the chunk's header and then its sum. Inlined, so that nothing is copied at every chunk.
 #[tactic(auto, unfolding(crate::specs::Chunks::checked_at))]
+#[inline(always)]
 pub fn checked_at(page: &[u8], at: usize) -> Step
     ensures answers { result ≡ checked_at page.now at }
 {

@@ -11,10 +11,11 @@ pub fn walk_end(page: &[u8], from: usize) -> Result<usize, Corrupted>
 {
     let mut at = from;
     loop {
-        let Some(chunk) = chunk_at(page, at)? else {
-            return Ok(at);
-        };
-        at = chunk.next;
+        match chunk_at(page, at) {
+            Ok(None) => return Ok(at),
+            Err(why) => return Err(why),
+            Ok(Some(chunk)) => at = chunk.next,
+        }
     }
 }
 
@@ -22,5 +23,10 @@ pub fn walk_end(page: &[u8], from: usize) -> Result<usize, Corrupted>
 pub fn all_erased(bytes: &[u8], value: u8) -> bool
     ensures answers { result ≡ all_erased value bytes.now }
 {
-    bytes.iter().all(|b| *b == value)
+    for i in 0..bytes.len() {
+        if bytes[i] != value {
+            return false;
+        }
+    }
+    true
 }

@@ -22,10 +22,10 @@ use digits::number::decimal_in;
 use flash::geometry::check_flash;
 use image::Image;
 use magic::magic_in;
-use script::space::{FLASH_ROOM, space};
+use script::space::flash_space;
 use slices::part::part_of;
 use std::env::Env;
-use types::config::{ERASE_VALUE, MAX_PAGE_COUNT, PAGE_SIZE};
+use types::config::{MAX_PAGE_COUNT, PAGE_SIZE};
 use types::page_id::PageID;
 use types::refusal::Refusal;
 
@@ -104,7 +104,7 @@ fn run(rt: &HostRuntime, asked: &Asked) -> Result<(), Said> {
         magic,
     ))?;
     let h = read_at(rt, h, decimal_in).ok_or_else(|| not_so(rt, b"H is not a number", h))?;
-    let mut space = space::<FLASH_ROOM>(ERASE_VALUE);
+    let mut space = flash_space();
     match read_file(rt, b"pages", file, &mut space, 0) {
         Ok(n) => {
             let flash = part_of(&space, 0, n);

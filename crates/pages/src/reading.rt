@@ -5,13 +5,12 @@ use crate::walk::{chunks_start, walked};
 use desk::say;
 use flash::geometry::whole_pages;
 use page::walk::all_erased;
-use reader::answers::EndTest;
 use reader::page_reader::PageReader;
-use script::space::space;
+use script::space::page_space;
 use slices::part::part_of;
 use std::cmp::Ord;
 use std::io;
-use types::config::{ERASE_VALUE, MAX_HEADER_SIZE, PAGE_SIZE};
+use types::config::{ERASE_VALUE, MAX_HEADER_SIZE};
 use types::page_id::PageID;
 use types::refusal::Refusal;
 
@@ -79,14 +78,15 @@ fn read_chunk(
     r: PageReader,
     image: Image<'_>,
 ) -> Result<Option<PageReader>, Stop> {
-    let mut chunk = space::<PAGE_SIZE>(0);
+    let mut chunk = page_space();
     let passage = r.read(image.flash, &mut chunk);
     let n = passage.answer?;
     rt.write_all(part_of(&chunk, 0, n))?;
     let behind = passage.reader;
-    match behind.is_at_eof(image.flash).answer? {
-        EndTest::AtEnd => Ok(None),
-        EndTest::More => Ok(Some(behind)),
+    if behind.is_at_eof(image.flash).answer?.at_end() {
+        Ok(None)
+    } else {
+        Ok(Some(behind))
     }
 }
 

@@ -1,5 +1,7 @@
 // What the calls answer.
-ghost use Rattle.std.specs.Prelude.{◌≡◌};
+ghost use Rattle.std.specs.Prelude.{◌≡◌, eqb, Ok};
+ghost use Rattle.types.specs.Answers.{size_or};
+ghost use Rattle.reader.specs.Answers.{end_test_told};
 ghost use Rattle.reader.specs.Calls.{passage_from};
 
 use crate::page_reader::PageReader;
@@ -35,4 +37,16 @@ impl<T> Passage<T> {
 pub enum EndTest {
     AtEnd,
     More,
+}
+
+impl EndTest {
+    // Whether the reader is at its end.
+    pub fn at_end(self) -> bool
+        ensures answers { result ≡ eqb (size_or 0 0 (end_test_told (Ok self))) 1 }
+    {
+        match self {
+            EndTest::AtEnd => true,
+            EndTest::More => false,
+        }
+    }
 }

@@ -1,5 +1,8 @@
 // A reader's state to be kept (page.rs, DehydratedPageReader). It has a type of its own, so that nobody reads by it before
-// rehydrate_from has checked it again. From one to the other and back nothing is checked.
+// rehydrate_from has checked it again.
+ghost use Rattle.std.specs.Prelude.{◌≡◌};
+ghost use Rattle.reader.specs.States.{restored};
+
 use crate::page_reader::PageReader;
 use types::page_id::PageID;
 
@@ -31,20 +34,18 @@ impl From<PageReader> for DehydratedPageReader {
     }
 }
 
-impl From<DehydratedPageReader> for PageReader {
-    ghost use Rattle.std.specs.Prelude.{◌≡◌};
-    ghost use Rattle.reader.specs.States.{restored};
-
-    ghost from_gives = { λ kept r. r ≡ restored kept };
-
-    fn from(kept: DehydratedPageReader) -> PageReader {
+impl DehydratedPageReader {
+    // The reader that was kept, before anything of it is checked.
+    pub(crate) fn restored(self) -> PageReader
+        ensures answers { result ≡ restored self }
+    {
         PageReader {
-            page: kept.page,
-            ended: kept.ended,
-            offset: kept.offset,
-            len: kept.len,
-            crc: kept.crc,
-            position: kept.position,
+            page: self.page,
+            ended: self.ended,
+            offset: self.offset,
+            len: self.len,
+            crc: self.crc,
+            position: self.position,
         }
     }
 }

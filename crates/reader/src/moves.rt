@@ -17,7 +17,9 @@ pub(crate) struct Passed {
     pub left: usize,
 }
 
-// Moves the reader to `at`: the start of a chunk, or the end of the page's chunks.
+// Moves the reader to `at`: the start of a chunk, or the end of the page's chunks. The reader goes in and out by value, so that a call
+// that is not inlined copies it at every chunk.
+#[inline(always)]
 pub(crate) fn arriving(r: PageReader, page: &[u8], at: usize) -> Result<PageReader, Corrupted>
     ensures answers { result ≡ arriving r at (checked_at page.now at) }
 {

@@ -160,7 +160,7 @@ impl PageReader {
     ) -> Result<((), PageReader), Refusal>
         ensures answers { passage_from self result ≡ rehydrate_from self flash.now dehydrated }
     {
-        let r = PageReader::from(dehydrated);
+        let r = dehydrated.restored();
         check_reader(flash.len(), r)?;
         if r.ended || crc32(payload_at(page_of(flash, r.page), r.offset, r.len)) == r.crc {
             Ok(((), r))

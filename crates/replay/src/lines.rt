@@ -4,10 +4,9 @@ use crate::world::{Space, new_world};
 use desk::files::read_full;
 use desk::say;
 use replay_say::Output;
-use script::space::{FLASH_ROOM, RUNS_ROOM, SCRIPT_ROOM, space};
+use script::space::{flash_space, runs_space, script_space};
 use slices::part::part_of;
 use std::io::Read;
-use types::config::ERASE_VALUE;
 
 // Run ends that a script can give.
 const MOST_ENDS: usize = 32;
@@ -32,8 +31,8 @@ fn say_stopped(rt: &HostRuntime, number: usize, line: &[u8]) {
 // Answers each line, up to one that is no call, or whose answer can't be written.
 fn answer_lines(rt: &HostRuntime, script: &[u8]) {
     let mut out = Output::new(rt.stdout());
-    let mut flash = space::<FLASH_ROOM>(ERASE_VALUE);
-    let mut runs = space::<RUNS_ROOM>(0);
+    let mut flash = flash_space();
+    let mut runs = runs_space();
     let mut ends = [0; MOST_ENDS];
     let mut space = Space {
         flash: &mut flash,
@@ -56,7 +55,7 @@ fn answer_lines(rt: &HostRuntime, script: &[u8]) {
 }
 
 pub(crate) fn answer_input(rt: &HostRuntime) {
-    let mut script = space::<SCRIPT_ROOM>(0);
+    let mut script = script_space();
     let mut more = [0; 1];
     let mut input = rt.stdin();
     let n = read_full(&mut input, &mut script);

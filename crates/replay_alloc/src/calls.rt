@@ -5,7 +5,7 @@ use alloc::answers::{Change, Usage};
 use alloc::several;
 use replay_say::Output;
 use replay_say::word::Word;
-use script::args::{bytes_at, number_at, page_at, seed_at};
+use script::args::{bytes_at, number_at, number_to, page_at, seed_at};
 use script::words::{nth_word, word_count};
 use types::config::MAX_PAGE_COUNT;
 
@@ -42,7 +42,7 @@ fn free(out: &mut Output, a: Allocator, line: &[u8]) -> Option<Allocator> {
 
 fn try_allocate_each(out: &mut Output, a: Allocator, line: &[u8]) -> Option<Allocator> {
     let mut raws = [0; MAX_PAGE_COUNT];
-    let places = raws.get_mut(..number_at(line, 2)?)?;
+    let places = raws.get_mut(..number_to(line, 2, MAX_PAGE_COUNT)?)?;
     Some(allocated_each(out, a, places))
 }
 

@@ -5,8 +5,8 @@ use cursor::answers::NextAnswer;
 use cursor::place::{Cursor, Place, RunPlace};
 use replay_say::Output;
 use replay_say::word::Word;
-use script::args::{bytes_at, number_at};
-use script::space::{LINE_ROOM, space};
+use script::args::{bytes_at, number_at, number_to};
+use script::space::line_space;
 use script::words::{nth_word, word_count};
 use slices::part::part_of;
 use std::ops::Bound;
@@ -63,7 +63,7 @@ fn forge(out: &mut Output, w: State, line: &[u8]) -> Option<State> {
 }
 
 fn new(out: &mut Output, w: State, line: &[u8], runs: &[u8], ends: &[usize]) -> Option<State> {
-    let mut key = space::<LINE_ROOM>(0);
+    let mut key = line_space();
     let lower = bound_in(line, &mut key)?;
     let made = Cursor::new(runs, ends, lower);
     out.say_line(made.answer);
@@ -85,12 +85,12 @@ fn say_next(out: &mut Output, answer: NextAnswer, key: &[u8], value: &[u8]) {
 
 // A step with as much room for the key and the value as is asked for.
 fn next(out: &mut Output, w: State, line: &[u8], runs: &[u8], ends: &[usize]) -> Option<State> {
-    let mut last = space::<LINE_ROOM>(0);
+    let mut last = line_space();
     let mut key = [0; MOST_ROOM];
     let mut value = [0; MOST_ROOM];
     let upper = bound_in(line, &mut last)?;
-    let key = key.get_mut(..number_at(line, 4)?)?;
-    let value = value.get_mut(..number_at(line, 5)?)?;
+    let key = key.get_mut(..number_to(line, 4, MOST_ROOM)?)?;
+    let value = value.get_mut(..number_to(line, 5, MOST_ROOM)?)?;
     let moved = w.cursor.next(runs, ends, upper, key, value);
     say_next(out, moved.answer, key, value);
     let cursor = moved.cursor;

@@ -3,12 +3,12 @@ use crate::state::State;
 use replay_say::Output;
 use replay_say::word::Word;
 use script::args::{bytes_at, number_at};
-use script::space::{LINE_ROOM, space};
+use script::space::line_space;
 use script::words::{nth_word, word_count};
 use slices::part::put;
 
 fn add_bytes(w: State, line: &[u8], runs: &mut [u8]) -> Option<State> {
-    let mut bytes = space::<LINE_ROOM>(0);
+    let mut bytes = line_space();
     let n = bytes_at(line, 2, &mut bytes)?;
     let runs_len = w.runs_len.checked_add(n)?;
     put(runs.get_mut(w.runs_len..runs_len)?, &bytes);
@@ -23,7 +23,7 @@ fn add_end(w: State, line: &[u8], ends: &mut [usize]) -> Option<State> {
 }
 
 fn poke(w: State, line: &[u8], runs: &mut [u8]) -> Option<State> {
-    let mut bytes = space::<LINE_ROOM>(0);
+    let mut bytes = line_space();
     let at = number_at(line, 2)?;
     let n = bytes_at(line, 3, &mut bytes)?;
     let there = runs.get_mut(..w.runs_len)?;

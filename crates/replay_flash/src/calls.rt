@@ -5,7 +5,7 @@ use replay_say::Output;
 use replay_say::said::Sum;
 use replay_say::word::Word;
 use script::args::{bytes_at, number_at};
-use script::space::{LINE_ROOM, space};
+use script::space::line_space;
 use script::words::{nth_word, word_count};
 use slices::part::{part_of, put};
 use types::config::{ERASE_VALUE, PAGE_SIZE};
@@ -54,7 +54,7 @@ fn bytes(out: &mut Output, line: &[u8], flash: &mut [u8]) -> Option<usize> {
 }
 
 fn poke(out: &mut Output, line: &[u8], flash: &mut [u8]) -> Option<()> {
-    let mut bytes = space::<LINE_ROOM>(0);
+    let mut bytes = line_space();
     let at = place_in(line)?;
     let n = bytes_at(line, 4, &mut bytes)?;
     put(part_at_mut(flash, at, n)?, &bytes);

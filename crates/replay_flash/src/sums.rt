@@ -4,12 +4,12 @@ use replay_say::Output;
 use replay_say::said::Sum;
 use replay_say::word::Word;
 use script::args::bytes_at;
-use script::space::{LINE_ROOM, space};
+use script::space::line_space;
 use script::words::word_count;
 use slices::part::part_of;
 
 pub(crate) fn answer(out: &mut Output, line: &[u8]) -> Option<()> {
-    let mut bytes = space::<LINE_ROOM>(0);
+    let mut bytes = line_space();
     if word_count(line) != 2 {
         return None;
     }

@@ -2,7 +2,6 @@
 use crate::slots;
 use crate::slots::{fields_at, say_fields};
 use crate::state::State;
-use reader::answers::EndTest;
 use reader::dehydrated::DehydratedPageReader;
 use reader::header;
 use reader::page_reader::PageReader;
@@ -78,13 +77,21 @@ fn skip(out: &mut Output, w: State, line: &[u8], flash: &[u8]) -> Option<State> 
 
 fn is_at_eof(out: &mut Output, w: State, flash: &[u8]) -> State {
     let tested = w.reader.is_at_eof(flash);
-    let answer = tested.answer.map(|test| test == EndTest::AtEnd);
+    let answer = tested.answer.map(|test| test.at_end());
     moved(out, w, answer, tested.reader)
 }
 
 fn forge(out: &mut Output, w: State, line: &[u8]) -> Option<State> {
     let fields = fields_at(line, 2)?;
-    Some(moved(out, w, Word::Ok, PageReader::from(fields)))
+    let reader = PageReader {
+        page: fields.page,
+        ended: fields.ended,
+        offset: fields.offset,
+        len: fields.len,
+        crc: fields.crc,
+        position: fields.position,
+    };
+    Some(moved(out, w, Word::Ok, reader))
 }
 
 fn of_reader(out: &mut Output, w: State, line: &[u8], flash: &[u8]) -> Option<State> {

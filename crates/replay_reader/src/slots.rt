@@ -2,12 +2,12 @@
 ghost use Rattle.std.specs.Prelude.{◌≤◌};
 
 use crate::calls::moved;
-use crate::state::State;
+use crate::state::{SLOTS, State};
 use reader::dehydrated::DehydratedPageReader;
 use replay_say::Output;
 use replay_say::said::Sum;
 use replay_say::word::Word;
-use script::args::{flag_at, number_at, page_at, word32_at};
+use script::args::{flag_at, number_at, number_to, page_at, word32_at};
 use script::words::{nth_word, word_count};
 
 // The six words of a state, from the k-th on.
@@ -40,14 +40,18 @@ pub(crate) fn say_fields(out: &mut Output, d: DehydratedPageReader) {
     out.say_line(d.position);
 }
 
+fn slot_at(line: &[u8]) -> Option<usize> {
+    number_to(line, 2, SLOTS - 1)
+}
+
 fn kept_at(w: State, line: &[u8]) -> Option<DehydratedPageReader> {
-    let slot = number_at(line, 2)?;
+    let slot = slot_at(line)?;
     let kept = w.kept;
     kept.get(slot).copied()
 }
 
 pub(crate) fn dehydrate(out: &mut Output, w: State, line: &[u8]) -> Option<State> {
-    let slot = number_at(line, 2)?;
+    let slot = slot_at(line)?;
     let mut kept = w.kept;
     let place = kept.get_mut(slot)?;
     let answer = w.reader.dehydrate();
@@ -70,7 +74,7 @@ pub(crate) fn rehydrate_from(
 }
 
 fn forge(out: &mut Output, w: State, line: &[u8]) -> Option<State> {
-    let slot = number_at(line, 2)?;
+    let slot = slot_at(line)?;
     let mut kept = w.kept;
     *kept.get_mut(slot)? = fields_at(line, 3)?;
     out.say_line(Word::Ok);

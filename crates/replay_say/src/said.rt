@@ -1,8 +1,9 @@
 // What an answer can say.
 use crate::Output;
 use crate::word::Word;
-use digits::hex::encode;
-use script::space::{LINE_ROOM, space};
+use digits::hex::{encode, hex32};
+use digits::number::{Apart, sign_apart};
+use script::space::line_space;
 use slices::part::part_of;
 use types::page_id::PageID;
 use types::refusal::Refusal;
@@ -30,7 +31,10 @@ impl Said for usize {
 
 impl Said for isize {
     fn say_on(self, out: &mut Output) {
-        out.print(format_args!(" {self}"));
+        let Apart { below, size } = sign_apart(self);
+        let sign = if below { " -" } else { " " };
+        out.print(sign);
+        out.print(size);
     }
 }
 
@@ -53,8 +57,8 @@ pub struct Sum(pub u32);
 
 impl Said for Sum {
     fn say_on(self, out: &mut Output) {
-        let sum = self.0;
-        out.print(format_args!(" {sum:08x}"));
+        out.print(" ");
+        out.print_bytes(&hex32(self.0));
     }
 }
 
@@ -65,7 +69,7 @@ impl Said for &[u8] {
             out.print(" -");
             return;
         }
-        let mut digits = space::<LINE_ROOM>(0);
+        let mut digits = line_space();
         let n = encode(self, &mut digits);
         out.print(" ");
         out.print_bytes(part_of(&digits, 0, n));

@@ -5,7 +5,7 @@ use replay_say::Output;
 use replay_say::said::{Said, Sum};
 use replay_say::word::Word;
 use script::args::{bytes_at, flag_at, magic_at, number_at, page_at, word32_at};
-use script::space::{LINE_ROOM, space};
+use script::space::line_space;
 use script::words::{nth_word, word_count};
 use slices::part::part_of;
 use types::config::ALIGN;
@@ -75,7 +75,7 @@ fn stored<T: Said + Drop, C: Fn(PageWriter, &mut [u8], usize) -> Ended<T>>(
 }
 
 fn write(out: &mut Output, w: State, line: &[u8], flash: &mut [u8]) -> Option<State> {
-    let mut space = space::<LINE_ROOM>(0);
+    let mut space = line_space();
     let n = bytes_at(line, 2, &mut space)?;
     let bytes = part_of(&space, 0, n);
     Some(stored(out, w, flash, |writer, flash, left| {
@@ -90,7 +90,7 @@ fn commit(out: &mut Output, w: State, flash: &mut [u8]) -> State {
 }
 
 fn write_header(out: &mut Output, w: State, line: &[u8], flash: &mut [u8]) -> Option<State> {
-    let mut space = space::<LINE_ROOM>(0);
+    let mut space = line_space();
     let magic = magic_at(line, 2)?;
     let n = bytes_at(line, 3, &mut space)?;
     let bytes = part_of(&space, 0, n);

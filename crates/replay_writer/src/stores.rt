@@ -5,9 +5,8 @@ use flash::geometry::page_of;
 use flash::ops::{erase_if, store_if};
 use replay_say::Output;
 use replay_say::word::Word;
-use script::space::space;
+use script::space::page_space;
 use slices::part::{part_to, put};
-use types::config::PAGE_SIZE;
 use types::page_id::PageID;
 use writer::answers::Ended;
 use writer::page_writer::PageWriter;
@@ -50,7 +49,7 @@ fn changed_on<C: Fn(&mut [u8], usize)>(
 ) -> Span
     requires { C.IsAlwaysCallable make.now }
 {
-    let mut before = space::<PAGE_SIZE>(0);
+    let mut before = page_space();
     wipe_page(flash, page, value);
     make(flash, k.saturating_sub(1));
     put(&mut before, page_of(flash, page));
@@ -96,7 +95,7 @@ pub(crate) fn say_done<T: Drop, C: Fn(PageWriter, &mut [u8], usize) -> Ended<T>>
     let make = |flash: &mut [u8], left: usize| {
         call(disarmed, flash, left);
     };
-    let mut kept = space::<PAGE_SIZE>(0);
+    let mut kept = page_space();
     put(&mut kept, page_of(flash, page));
     out.say(count);
     if erases != 0 {

@@ -1,28 +1,29 @@
 -- The turns of the searches in a line. Assumes nothing.
-use Rattle.std.specs.Prelude.{Option, Some, None, position}
-use Rattle.std.specs.Option.{unwrap_or}
-use Rattle.std.proofs.lemmas.List.Sums.{prefix_len-le-length}
-use mathlib.Core.Bool.{Bool, true, false, cond, not}
-use lib.Dec.{eqb, ltb}
-use mathlib.Core.Path.{◌≡◌, refl, sym, ap, ◌∙◌}
+use Rattle.std.proofs.lemmas.List.Sums.{prefix_len-drop_all, prefix_len-drop_no, prefix_len-drop_yes}
+use mathlib.Core.Bool.{not}
+use lib.Dec.{eqb}
+use mathlib.Core.Path.{◌≡◌, sym, ap, ◌∙◌}
 use mathlib.Core.List.{List}
 use mathlib.Core.Logic.{⊎_elim}
 use Prim.Native.Nat.{ℕ, suc, ◌+◌, ◌-◌, ◌≤◌, ◌<◌, min}
 use native.Mathlib.Omega.{arith}
-use lib.ListN.{length, take, drop, drop_of_length-le}
+use lib.ListN.{length, take, drop, get_or, drop_of_length-le}
 use lib.Seq.{drop-drop}
-use borrow.Author.Tests.{ltb-false}
+use borrow.Author.Tests.{eq-eqb, ne_eqb}
 use Rattle.types.proofs.TestLaws.{le-or-lt}
 use Rattle.script.specs.Words.{before, end_from, space, nth_word}
 
--- ---- the first such byte
+-- ---- the end of a word or a line
 
-by-test : (t : Bool) (n k : ℕ) → n ≤ k → t ≡ ltb n k → unwrap_or (cond t (Some n) None) k ≡ n
-by-test true n k h e = refl
-by-test false n k h e = let g : k ≤ n = ltb-false n k (sym e) in omega arith
+module _ (text : List ℕ) (i byte : ℕ) where
+  pub end-found : i < length text → get_or text i 0 ≡ byte → i ≡ end_from text i byte
+  end-found h e = let z = prefix_len-drop_no (λ b. not (eqb b byte)) text i 0 h (ap not (eq-eqb (get_or text i 0) byte e)) in omega arith
 
-pub before-found : (byte : ℕ) (text : List ℕ) (r : Option ℕ) → r ≡ position (λ b. eqb b byte) text → unwrap_or r (length text) ≡ before byte text
-before-found byte text r e = rw e (by-test (ltb (before byte text) (length text)) (before byte text) (length text) (prefix_len-le-length (λ b. not (eqb b byte)) text) refl)
+  pub end-turn : i < length text → (get_or text i 0 ≡ byte → ⊥) → end_from text (i + 1) byte ≡ end_from text i byte
+  end-turn h n = let z = prefix_len-drop_yes (λ b. not (eqb b byte)) text i 0 h (ap not (ne_eqb (get_or text i 0) byte n)) in omega arith
+
+  pub end-past : length text ≤ i → i ≡ end_from text i byte
+  end-past h = let z = prefix_len-drop_all (λ b. not (eqb b byte)) text i h in omega arith
 
 -- ---- the k-th word
 

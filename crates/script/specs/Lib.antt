@@ -1,2 +1,3 @@
 pub mod Args
+pub mod Spaces
 pub mod Words

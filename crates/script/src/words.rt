@@ -1,5 +1,5 @@
 // Lines and words: a line ends at a newline, a word at a space.
-ghost use Rattle.std.specs.Prelude.{◌≡◌, ◌==◌, ◌↔◌, IsTrue, position};
+ghost use Rattle.std.specs.Prelude.{◌≡◌};
 ghost use Rattle.script.specs.Words.{end_from, nth_word, word_count};
 
 use slices::part::part_of;
@@ -7,19 +7,16 @@ use std::cmp::Ord;
 
 const SPACE: u8 = b' ';
 
-// The index of the first such byte.
-fn place_of(text: &[u8], byte: u8) -> Option<usize>
-    ensures answers { result ≡ position (λ b. b == byte) text.now }
-{
-    text.iter().position(|b| *b == byte)
-}
-
 // The index of the first such byte at or after an index. Where there is none: the text's end, or the index if that is past it.
 pub fn end_from(text: &[u8], from: usize, byte: u8) -> usize
     ensures answers { result ≡ end_from text.now from byte }
 {
-    let rest = part_of(text, from, text.len());
-    from + place_of(rest, byte).unwrap_or(rest.len())
+    for i in from..text.len() {
+        if text[i] == byte {
+            return i;
+        }
+    }
+    from.max(text.len())
 }
 
 // The k-th word of a line, counted from 0, and nothing past the last.

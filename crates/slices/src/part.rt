@@ -26,8 +26,11 @@ pub fn part_to(bytes: &[u8], from: usize, to: usize) -> &[u8]
 pub fn put(part: &mut [u8], bytes: &[u8])
     ensures bytes { part.new ≡ over bytes.now part.old }
 {
+    // Byte by byte: the library's copy becomes a memmove, which an archive for C would need from outside.
     let n = bytes.len().min(part.len());
-    part[..n].copy_from_slice(&bytes[..n]);
+    for i in 0..n {
+        part[i] = bytes[i];
+    }
 }
 
 // Puts the bytes into the buffer from an index on, as far as they fit.

@@ -6,7 +6,9 @@ use Rattle.std.specs.declared.option.Option.TheVariants.{None, Some}
 use Rattle.std.specs.declared.result.Result.{Result}
 use Rattle.types.specs.Refusals.{number_of}
 use Rattle.types.specs.declared.page_id.PageID.{PageID}
+use Rattle.types.specs.declared.refusal.Corrupted.{Corrupted}
 use Rattle.types.specs.declared.refusal.Refusal.{Refusal}
+use Rattle.types.specs.declared.refusal.Refusal.TheVariants as row
 
 -- a value may be below zero
 pub record Told : Type 0 where
@@ -31,6 +33,11 @@ module _ {A : Type 0} where
   abbrev pub number_told : Result A Refusal → ℕ
   number_told (Ok a) = 0
   number_told (Err why) = number_of why
+
+  -- the same of what can be refused for one reason alone
+  abbrev pub corrupted_told : Result A Corrupted → ℕ
+  corrupted_told (Ok a) = 0
+  corrupted_told (Err why) = number_of row.Corrupted
 
 -- the k-th value, or another where there is none
 abbrev pub value_or : ℤ → ℕ → Told → ℤ

@@ -7,11 +7,11 @@ use Rattle.crc.specs.Register.{updated}
 use Rattle.crc.proofs.RegisterLaws.{updated-turn, updated-end}
 use Rattle.crc.proofs.nibble.update.Goals as goal
 
-pub loop-b-preserved : goal.loop-b-preserved
-loop-b-preserved c =
-    let a = c.loop-b in
+pub loop-i-preserved : goal.loop-i-preserved
+loop-i-preserved c =
+    let a = c.loop-i in
     let d = c.args.bytes.now in
-    ap (λ (x : ℕ). updated x (drop (a.b-index + 1) d)) c.take-x.ensures.answers ∙ updated-turn d a.b-index a.x (omega arith) ∙ a.invariant
+    ap (λ (x : ℕ). updated x (drop (a.i + 1) d)) c.take-x.ensures.answers ∙ updated-turn d a.i a.x (omega arith) ∙ a.invariant
 
 pub returns : goal.returns
-returns c = record { answers = let a = c.loop-b in updated-end c.args.bytes.now a.b-index a.x (omega arith) ∙ a.invariant }
+returns c = record { answers = let a = c.loop-i in updated-end c.args.bytes.now a.i a.x (omega arith) ∙ a.invariant }

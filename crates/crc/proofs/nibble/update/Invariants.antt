@@ -4,5 +4,5 @@ use lib.ListN.{drop}
 use Rattle.crc.specs.Register.{updated}
 use Rattle.crc.proofs.nibble.update.Given as goal
 
-abbrev pub invariant-loop-b : goal.invariant-loop-b
-invariant-loop-b l = updated l.x (drop l.b-index l.bytes) ≡ updated l.c l.bytes
+abbrev pub invariant-loop-i : goal.invariant-loop-i
+invariant-loop-i l = updated l.x (drop l.i l.bytes) ≡ updated l.c l.bytes
