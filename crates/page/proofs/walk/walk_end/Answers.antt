@@ -2,7 +2,6 @@
 use mathlib.Core.Path.{◌≡◌, sym, ap, ◌∙◌}
 use native.Mathlib.Omega.{arith}
 use Rattle.std.specs.Prelude.{Ok, Err, Some, None}
-use Rattle.std.proofs.lemmas.Grind.{common_steps}
 use Rattle.types.specs.Checks.{corruption}
 use Rattle.page.specs.Chunks.{chunk_at}
 use Rattle.page.specs.Walks.{Walked}
@@ -22,7 +21,7 @@ pub returns-in-Err : goal.returns-in-Err
 returns-in-Err c =
     let found : chunk_at c.args.page.now c.loop-chunk.at ≡ Err corruption = sym c.chunk_at.ensures.answers ∙ c.in-Err.is in
     let ends = sym (ap (λ (w : Walked). w.ending) (walk-bad c.args.page.now c.loop-chunk.at found)) ∙ c.loop-chunk.invariant in
-    record { answers = grind (arith, common_steps, ends) }
+    record { answers = ends }
 
 pub loop-chunk-smaller : goal.loop-chunk-smaller
 loop-chunk-smaller c =
