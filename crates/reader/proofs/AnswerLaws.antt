@@ -61,3 +61,6 @@ state-told d other = as-told d _ (flag-back d.ended)
 -- where no state is told, the other one is handed out as it is
 pub other-told : (other : DehydratedPageReader) → other ≡ state_or other (answered [])
 other-told other = as-told other _ (flag-back other.ended)
+
+pub state-refused : (other : DehydratedPageReader) (why : Refusal) → other ≡ state_or other (dehydration_told (Err why))
+state-refused other why = other-told other

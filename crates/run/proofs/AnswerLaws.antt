@@ -1,9 +1,10 @@
 -- The record that a head's values tell is the head's own. Assumes nothing.
-use Rattle.std.specs.Prelude.{Ok, Some}
+use Rattle.std.specs.Prelude.{Ok, Err, Some, None}
 use mathlib.Core.Path.{◌≡◌, sym, ap}
 use mathlib.Core.Bool.{Bool}
 use mathlib.Core.List.{[]}
 use Rattle.types.specs.Answers.{answered}
+use Rattle.types.specs.declared.refusal.Refusal.{Refusal}
 use Rattle.types.proofs.TestLaws.{flag-back}
 use Rattle.run.specs.Answers.{head_told, record_or}
 use Rattle.run.specs.declared.record.Record.{Record}
@@ -18,3 +19,9 @@ record-told r other = as-told r _ (flag-back r.deleted)
 -- where no record is told, the other one is handed out as it is
 pub other-told : (other : Record) → other ≡ record_or other (answered [])
 other-told other = as-told other _ (flag-back other.deleted)
+
+pub record-none : (other : Record) → other ≡ record_or other (head_told (Ok None))
+record-none = other-told
+
+pub record-refused : (other : Record) (why : Refusal) → other ≡ record_or other (head_told (Err why))
+record-refused other why = other-told other

@@ -37,6 +37,9 @@ maybe_told-number (Some page) = refl
 pub size_told-size : (other n : ℕ) → size_or other 0 (size_told (Ok n)) ≡ n
 size_told-size other n = refl
 
+pub size_told-other : (other : ℕ) (why : Refusal) → size_or other 0 (size_told (Err why)) ≡ other
+size_told-other other why = refl
+
 pub page_of_told-page : (other : ℕ) (page : PageID) → size_or other 0 (page_of_told (Ok page)) ≡ page.0
 page_of_told-page other page = refl
 
