@@ -1,5 +1,5 @@
 -- The record that a head's values tell is the head's own. Assumes nothing.
-use Rattle.std.specs.Prelude.{Ok, Err, Some, None}
+use Rattle.std.specs.Prelude.{Ok, Err, Some}
 use mathlib.Core.Path.{◌≡◌, sym, ap}
 use mathlib.Core.Bool.{Bool}
 use mathlib.Core.List.{[]}
@@ -19,9 +19,6 @@ record-told r other = as-told r _ (flag-back r.deleted)
 -- where no record is told, the other one is handed out as it is
 pub other-told : (other : Record) → other ≡ record_or other (answered [])
 other-told other = as-told other _ (flag-back other.deleted)
-
-pub record-none : (other : Record) → other ≡ record_or other (head_told (Ok None))
-record-none = other-told
 
 pub record-refused : (other : Record) (why : Refusal) → other ≡ record_or other (head_told (Err why))
 record-refused other why = other-told other
